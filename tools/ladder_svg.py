@@ -6,7 +6,7 @@ from command import xml
 from ladder import Ladder, Row
 
 STEP, ROW, TOP = 190, 34, 60  # pixels between columns, between rows, and above the first row
-CLOSE, MANY = 140, 5  # between columns, where there are more than so many
+CLOSE, WIDE = 106, 860  # between columns at the least, where the picture would be wider than that
 CHAR = 7.2  # pixels of a letter, at most
 BOLD = 8.3  # of a bold one
 BOX = 80  # the width of a box, at least
@@ -22,9 +22,16 @@ BELOW = 14  # from an arrow to what stands below it
 class Picture:
     def __init__(self, ladder: Ladder, title: str, has_ends: bool = False) -> None:
         self.ladder, self.title, self.has_ends, self.parts = ladder, title, has_ends, list[str]()
-        self.left, self.step = LEFT + self.overhang(), CLOSE if len(ladder.nodes) > MANY else STEP
+        self.left = LEFT + self.overhang()
+        room = WIDE - self.left - self.behind()
+        names = max((self.width_of(name) for name in ladder.nodes), default=BOX)
+        self.step = max(names + 6, min(STEP, max(CLOSE, room // max(1, len(ladder.nodes) - 1))))
         self.right = self.at(ladder.nodes[-1]) if ladder.nodes else self.left
         self.height = TOP + ROW * len(ladder.rows) + 20
+
+    @staticmethod
+    def width_of(name: str) -> float:
+        return max(BOX, BOLD * len(name) + 20)
 
     def at(self, name: str) -> float:
         return self.left + self.step * self.ladder.nodes.index(name)
@@ -34,6 +41,11 @@ class Picture:
         first = self.ladder.nodes[:1]
         return max([CHAR * len(row.fate.partition(' ')[0]) + 20 for row in self.ladder.rows if row.is_arrow and first == [row.target]
                     and row.source != row.target] + [40])
+
+    def behind(self) -> float:
+        """The room that is needed to the right of the last column."""
+        last = self.ladder.nodes[-1:]
+        return max([CHAR * len(row.fate.partition(' ')[0] if row.is_arrow else row.fate) + 30 for row in self.ladder.rows if last == [row.target or row.source]] + [BOX])
 
     def text(self, x: float, y: float, text: str, anchor: str = 'start', weight: str = 'normal', more: str = '') -> None:
         self.parts.append(f'<text x="{x:.0f}" y="{y:.0f}" text-anchor="{anchor}" font-weight="{weight}"{more}>{xml(text)}</text>')
@@ -47,7 +59,7 @@ class Picture:
         for name in self.ladder.nodes:
             x = self.at(name)
             self.line(x, TOP - 14, x, self.height - 10, ' stroke="#767676"')
-            width = max(BOX, BOLD * len(name) + 20)
+            width = self.width_of(name)
             self.right = max(self.right, x + width / 2)
             self.parts.append(f'<rect x="{x - width / 2:.0f}" y="{TOP - 40}" width="{width:.0f}" height="24" fill="#fff" stroke="#000"/>')
             self.text(x, TOP - 24, name, 'middle', 'bold')
@@ -67,7 +79,7 @@ class Picture:
         if row.is_lost and not row.is_turned:
             end = self.end_of_lost(row, start, sign)
         dashes = ' stroke-dasharray="5 4"' if row.is_lost and not row.is_dropped and not row.is_turned else ''
-        self.line(start, y, end, y, dashes)
+        self.line(start, y, end, y, dashes + (' class="drop"' if row.is_dropped or row.is_turned else ''))
         self.rings(row, start, end, y)
         self.text((start + end) / 2 if abs(end - start) < 1.5 * self.step else start + sign * self.step / 2, y - 6, row.label, 'middle')
         if self.has_ends:
@@ -92,12 +104,13 @@ class Picture:
                 self.parts.append(f'<circle cx="{self.at(nat):.0f}" cy="{y:.0f}" r="{RING}" fill="#fff" stroke="#000"/>')
 
     def fate(self, row: Row, end: float, y: int, sign: int) -> None:
-        """The fate behind the arrow's end; what an arrow to the left has beside its word stands below the arrow."""
-        word, _, rest = row.fate.partition(' ') if sign < 0 and not row.is_lost else (row.fate, '', '')
+        """The fate behind the arrow's end; what an arrow to the left, or to the last column, has beside its word stands below the arrow."""
+        is_last = self.ladder.nodes[-1:] == [row.target]
+        word, _, rest = row.fate.partition(' ') if (sign < 0 or is_last) and not row.is_lost else (row.fate, '', '')
         look = ('bold', ' class="drop"') if row.is_dropped or row.is_turned else ('normal', '')
         self.text(end + sign * 10, y + 4, word, 'start' if sign > 0 else 'end', *look)
         if rest:
-            self.text(end + 10 + PORT * self.has_ends, y + BELOW, rest)
+            self.text(end - sign * (10 + PORT * self.has_ends), y + BELOW, rest, 'end' if sign > 0 else 'start')
 
     def ends(self, row: Row, start: float, end: float, y: int, sign: int) -> None:
         """The ports, below the arrow, each at the NAT that has it."""

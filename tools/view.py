@@ -61,7 +61,7 @@ class View:
         self.ends = {}
         for record, end in self.handed_in:
             if end.reason:
-                self.ends.setdefault(end.record.index, []).append((record.event, end.reason))
+                self.ends.setdefault(end.record.index, {}).setdefault(end.reason, []).append(record.event)
         self.records = self.report.records[self.first:self.first + RECORDS_MAX]
         self.ladder = Ladder(self.report, self.first, self.first + RECORDS_MAX - 1, (), self.known)
 
@@ -118,8 +118,8 @@ class View:
         """Why what a record is about came no further: what was dropped, what wasn't sent, and each packet of a host that ends here."""
         found = [causes.of_drop(self.travels, record)] if causes.is_drop(record.fate) and not record.gone else []
         found += [f'!{loss.word}: {causes.of_loss(loss)}' for loss in record.losses]
-        found += [f'the packet of event {event}: {reason}' for event, reason in self.ends.get(record.index, []) if reason not in ' '.join(found)]
-        return found
+        ended = [(reason, events) for reason, events in self.ends.get(record.index, {}).items() if reason not in ' '.join(found)]
+        return found + [f'the packet{"s" * (len(events) > 1)} of event{"s" * (len(events) > 1)} {", ".join(map(str, events))}: {reason}' for reason, events in ended]
 
     def way(self, entry, record):
         """The nodes that an entry passed, as far as it came."""

@@ -78,7 +78,7 @@ def check_states(program):
             continue
         kinds = {node['name']: node['kind'] for node in shown['nodes']}
         for record in shown['records']:
-            entry = re.search(r', ([\d.]+:\d+) > [\d.]+:(\d+), ', record.get('said', ''))
+            entry = re.search(r', ([\d.]+:\d+) > [\d.]+:(\d+), ', record['entries'][0][1] if 'way' in record else '')
             nats = [node for node in record.get('way', []) if kinds.get(node) == 'nat']
             if not entry or not nats or record['way'][-1] != record['node'] or kinds.get(record['node']) not in ('client', 'nat'):
                 continue

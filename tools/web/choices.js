@@ -39,7 +39,7 @@ async function save(what) {
 function begin(text, name, goTo) {
   back();
   setText(text, name);
-  state.at = 0;
+  state.at = null;
   keepFragment();
   return play(goTo);
 }
@@ -151,9 +151,14 @@ function keyed(event) {
   }
 }
 
+function toText() {
+  get('text-part').scrollIntoView();
+  get('text').focus({ preventScroll: true });
+}
+
 function listen() {
   const clicks = { 'to-first': () => step(0), 'to-before': () => move(-1), 'to-next': () => move(1), 'to-last': () => move(state.view.records.length), run,
-    earlier: () => moveWindow(-1), later: () => moveWindow(1), back, copy: copyAddress, 'open-gallery': () => get('gallery').showModal(),
+    smaller: () => zoom(1 / ZOOM_STEP), fitted: () => zoom(0), larger: () => zoom(ZOOM_STEP), 'to-text': toText, earlier: () => moveWindow(-1), later: () => moveWindow(1), back, copy: copyAddress, 'open-gallery': () => get('gallery').showModal(),
     'open-two': () => { get('two-said').textContent = ''; get('two').showModal(); } };
   for (const [id, act] of Object.entries(clicks)) {
     get(id).addEventListener('click', () => { if (state.view || !['to-first', 'to-last', 'to-next', 'to-before'].includes(id)) act(); });
@@ -162,28 +167,17 @@ function listen() {
   get('ends').addEventListener('change', () => { if (state.view) { drawPicture(); step(state.at); } });
   get('text').addEventListener('input', typed);
   get('text').addEventListener('scroll', placeBand);
-  get('picture').addEventListener('scroll', () => get('heads').classList.toggle('away', get('picture').scrollTop < HEAD_HEIGHT));
+  get('picture').addEventListener('scroll', hideHeads);
+  addEventListener('resize', fit);
   get('two-form').addEventListener('submit', makeTwo);
   document.querySelectorAll('[data-save]').forEach((one) => one.addEventListener('click', () => save(one.dataset.save)));
   document.querySelectorAll('[data-close]').forEach((one) => one.addEventListener('click', () => one.closest('dialog').close()));
   get('steps-part').addEventListener('toggle', drawSteps);
   document.addEventListener('keydown', keyed);
-  NARROW.addEventListener('change', arrange);
   addEventListener('hashchange', async () => {
     const found = await ofFragment();
     if (found && found.text !== state.text) showFound(found);
   });
-}
-
-// The parts in the order in which they are read: on a narrow screen the ladder comes first, and what is said of a record below it.
-// So Tab goes on as the eye does.
-const NARROW = matchMedia('(max-width: 760px)');
-const COLUMNS = { wide: [['text', 'record'], ['picture', 'nodes', 'packets', 'reach']],
-  narrow: [['picture', 'record', 'text'], ['nodes', 'packets', 'reach']] };
-
-function arrange() {
-  const columns = COLUMNS[NARROW.matches ? 'narrow' : 'wide'];
-  ['first', 'second'].forEach((name, at) => get(`${name}-column`).append(...columns[at].map((part) => get(`${part}-part`))));
 }
 
 // What an address has in it: a text is played anew where somebody plays; a page by itself shows what came with it, and says so.
@@ -192,12 +186,13 @@ function showFound(found) {
     begin(found.text, found.name);
     return;
   }
-  Object.assign(data, { probes: {}, report: undefined, capture: null, isForeign: true });
+  Object.assign(data, { probes: {}, report: undefined, capture: null, datagrams: {}, no_datagrams: 'The address has no bytes.', isForeign: true });
   offerFiles();
   get('note').textContent = 'This is what the address says, as whoever made it wrote it: this page played nothing of it, and nothing of it is proved.';
   get('note').hidden = false;
   try {
     setText(found.text, found.name);
+    state.at = null;
     show(found.view);
   } catch {
     say('the address has no scenario that can be shown');
@@ -210,7 +205,6 @@ function offerFiles() {
 }
 
 async function start() {
-  arrange();
   listen();
   get('note').textContent = data.note || '';
   get('note').hidden = !data.note;

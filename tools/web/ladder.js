@@ -8,19 +8,36 @@ function drawPicture() {
   const width = Number(svg.getAttribute('width'));
   view.rows.forEach((record, row) => {
     const hit = rectOf(row, width, 'hit');
-    hit.addEventListener('click', () => step(record - view.first));
+    hit.addEventListener('click', () => step(record - view.first, view.carried[row]));
     svg.append(hit);
   });
   box.querySelector('svg')?.remove();
   box.append(svg);
-  get('heads').replaceChildren(...view.columns.map(([name, x]) => {
-    const head = make('span', '', name);
-    head.style.left = `${x}px`;
-    return head;
-  }));
-  get('heads').style.minWidth = `${width}px`;
-  get('heads').classList.toggle('away', box.scrollTop < HEAD_HEIGHT);
+  get('heads').replaceChildren(...view.columns.map(([name]) => make('span', '', name)));
+  fit();
 }
+
+// The picture is fitted to its box, as far as its letters stay large enough, or as large as somebody wants it.
+function fit() {
+  const box = get('picture'), svg = box.querySelector('svg');
+  if (!svg) return;
+  const [width, height] = ['width', 'height'].map((name) => Number(svg.getAttribute(name)));
+  const fitting = Math.min(FIT_MAX, Math.max(FIT_MIN, (box.clientWidth - 2) / width));
+  state.scale = state.zoom ? Math.min(ZOOM_MAX, Math.max(ZOOM_MIN, state.zoom)) : fitting;
+  box.style.setProperty('--wide', `${width * state.scale}px`);
+  box.style.setProperty('--high', `${height * state.scale}px`);
+  [...get('heads').children].forEach((head, at) => { head.style.left = `${state.view.columns[at][1] * state.scale}px`; });
+  get('heads').style.minWidth = `${width * state.scale}px`;
+  hideHeads();
+}
+
+function zoom(by) {
+  state.zoom = by && state.scale * by;
+  fit();
+  if (state.view) markRows(state.view.records[state.at]);
+}
+
+const hideHeads = () => get('heads').classList.toggle('away', get('picture').scrollTop < HEAD_HEIGHT * state.scale);
 
 // The ladder as a table, for who can't see it: what the picture has, a row for a row. It is made where it is asked for.
 function drawSteps() {
@@ -28,8 +45,8 @@ function drawSteps() {
   const { view } = state;
   const head = make('tr', '', ...['record', 'time', 'from', 'to', 'what', 'what became of it'].map((name) => make('th', '', name)));
   head.querySelectorAll('th').forEach((cell) => { cell.scope = 'col'; });
-  get('steps-table').replaceChildren(head, ...view.steps.map(([record, moment, from, to, what, fate]) => {
-    const number = button(String(record), () => step(record - view.first));
+  get('steps-table').replaceChildren(head, ...view.steps.map(([record, moment, from, to, what, fate], at) => {
+    const number = button(String(record), () => step(record - view.first, view.carried[at]));
     const row = make('tr', '', ...[number, ms(moment), from, to, what, fate].map((cell) => make('td', '', cell)));
     row.dataset.record = record;
     return row;
@@ -58,16 +75,17 @@ function rectOf(row, width, kind) {
 function markRows(record) {
   const { view } = state;
   const svg = get('picture').querySelector('svg');
-  if (!svg) return;
+  if (!svg || !record) return;
   svg.querySelectorAll('.now, .dot').forEach((old) => old.remove());
   const rows = view.rows.flatMap((known, row) => (known === record.index ? [row] : []));
   const paper = svg.querySelector('rect');
-  for (const row of rows) paper.after(rectOf(row, svg.getAttribute('width'), 'now'));
-  const box = get('picture'), top = rowY(rows.length ? rows[0] : Math.max(0, view.rows.filter((known) => known < record.index).length - 1));
+  for (const one of rows) paper.after(rectOf(one, svg.getAttribute('width'), 'now'));
+  const box = get('picture'), row = rows.length ? rows[0] : Math.max(0, view.rows.filter((known) => known < record.index).length - 1);
+  const top = rowY(row) * state.scale;
   if (top < box.scrollTop + HEAD_HEIGHT + 20 || top > box.scrollTop + box.clientHeight - 40) box.scrollTop = Math.max(0, top - box.clientHeight / 2);
-  const reach = view.columns.filter(([name]) => [record.node, ...(record.way || [])].includes(name)).map(([, x]) => x);
+  const reach = view.columns.filter(([name]) => [record.node, ...(record.way || [])].includes(name)).map(([, x]) => x * state.scale);
   if (reach.length) bringIntoView(box, Math.min(...reach), Math.max(...reach));
-  for (const row of rows) travel(svg, row);
+  for (const one of rows) travel(svg, one);
 }
 
 // Scrolls sideways, where an arrow isn't seen.
@@ -106,9 +124,12 @@ function moveWindow(by) {
 
 // A record.
 
-function step(at) {
+// Goes to a record, and opens an entry of its own: the one that is named, or the one that is open already.
+function step(at, entry) {
   const { view } = state, record = view && view.records[at];
+  const has = (number) => Boolean(record) && record.entries.some(([one]) => one === number);
   state.at = at;
+  state.opened = has(entry) ? entry : has(state.opened) ? state.opened : null;
   get('at').value = at;
   get('where').textContent = record ? `record ${record.index} of ${view.count}, ${ms(record.moment)}` : 'no record';
   get('to-first').disabled = get('to-before').disabled = at <= 0;
@@ -126,16 +147,16 @@ function step(at) {
 const move = (by) => step(Math.min(Math.max(0, state.at + by), Math.max(0, state.view.records.length - 1)));
 
 function aboutRecord(record) {
-  const told = state.view.rules[record.rule];
-  const made = [make('p', 'line', record.line)];
-  if (record.way) made.push(wayOf(record, told.is_drop), make('p', '', record.said));
+  const told = state.view.rules[record.rule], why = record.why || [];
   const fate = make('b', told.is_drop ? 'drop' : '', record.fate);
-  made.push(make('p', '', fate, told.means ? `: ${told.means}` : ''));
-  if (told.is_drop && told.cause) made.push(make('p', 'hint', `Likely cause: ${told.cause}.${told.look ? ` Look next at ${told.look}.` : ''}`));
+  const made = [make('p', 'line', record.line), record.way ? wayOf(record, told.is_drop) : null, make('p', '', fate, told.means ? `: ${told.means}` : '')];
+  made.push(...why.map((reason) => make('p', 'why', make('b', '', 'Why: '), `${reason}.`)));
+  if (told.is_drop && told.look) made.push(make('p', 'hint', `Look next at ${told.look}.`));
+  made.push(...record.entries.flatMap(([number, said]) => entryOf(number, said)));
   for (const rule of told.rules) {
     made.push(make('p', 'hint', `RULES.md, ${rule.where}, line ${rule.line}: `, make('i', '', rule.condition), rule.standard ? ` (${rule.standard})` : ''));
   }
-  return made;
+  return made.filter(Boolean);
 }
 
 function wayOf(record, isDrop) {

@@ -23,39 +23,46 @@ function apply(known, patch) {
   for (const key of ['phase', 'address']) if (key in patch) known[key] = patch[key];
 }
 
+// The nodes of a record's way first, then clients, NATs and the others; what this record changed is marked.
 function drawNodes(record) {
-  const states = record ? statesNow() : {};
-  const kinds = ['client', 'nat', 'server', 'relay', 'native'];
-  const nodes = state.view ? [...state.view.nodes].sort((one, other) => kinds.indexOf(one.kind) - kinds.indexOf(other.kind)) : [];
-  const way = record && record.way || [];
+  const states = record ? statesNow() : {}, changes = record && state.view.patches[state.at] || {};
+  const kinds = ['client', 'nat', 'server', 'relay', 'native'], way = record ? [record.node, ...(record.way || [])] : [];
+  const rank = (node) => (way.includes(node.name) ? 0 : 10) + kinds.indexOf(node.kind);
+  const nodes = state.view ? [...state.view.nodes].sort((one, other) => rank(one) - rank(other)) : [];
   get('nodes').replaceChildren(...nodes.map((node) => {
     const card = make('div', 'card', make('h3', '', node.name), make('p', 'hint', node.about));
-    card.classList.toggle('now', Boolean(record) && (record.node === node.name || way.includes(node.name)));
-    if (record) card.append(...knownOf(node, states[node.name] || {}, record.moment));
+    card.classList.toggle('now', way.includes(node.name));
+    if (record) card.append(...knownOf(node, states[node.name] || {}, record.moment, changes[node.name] || {}));
     return card;
   }));
 }
 
-function knownOf(node, known, now) {
-  if (node.kind === 'nat') return [mappingsOf(known, now)];
+function knownOf(node, known, now, change) {
+  if (node.kind === 'nat') return [mappingsOf(known, now, change)];
   if (node.kind === 'client') {
-    const phase = make('p', '', known.phase ? `phase ${known.phase}` : 'asked nobody yet');
-    return [phase, known.address ? make('p', 'good', make('code', '', known.address)) : make('p', '', 'no address'), peersOf(known, now)];
+    const phase = make('p', '', known.phase ? `phase ${known.phase}` : 'asked nobody yet', marked('phase' in change));
+    const address = known.address ? make('p', 'good', make('code', '', known.address)) : make('p', '', 'no address');
+    address.append(...[marked('address' in change)].filter(Boolean));
+    return [phase, address, peersOf(known, now, change)];
   }
-  return node.kind === 'relay' ? [peersOf(known, now)] : [];
+  return node.kind === 'relay' ? [peersOf(known, now, change)] : [];
 }
 
-function listOf(items, none) {
-  if (!items.length) return make('p', 'hint', none);
-  const shown = items.slice(0, PEERS_SHOWN).map((item) => make('li', '', item));
-  return make('ul', '', ...shown, items.length > PEERS_SHOWN ? make('li', '', `and ${items.length - PEERS_SHOWN} more`) : null);
+const marked = (isChanged) => (isChanged ? make('b', 'changed', 'now') : null);
+
+// Lines as a list, each with whether this record changed it; those that it changed come first.
+function listOf(lines, none) {
+  if (!lines.length) return make('p', 'hint', none);
+  const sorted = [...lines].sort(([, one], [, other]) => other - one);
+  const shown = sorted.slice(0, PEERS_SHOWN).map(([text, isChanged]) => make('li', '', text, marked(isChanged)));
+  return make('ul', '', ...shown, lines.length > PEERS_SHOWN ? make('li', '', `and ${lines.length - PEERS_SHOWN} more`) : null);
 }
 
-function mappingsOf(known, now) {
-  const live = Object.values(known.mappings || {}).filter((mapping) => mapping.until > now);
-  return listOf(live.map((mapping) => {
+function mappingsOf(known, now, change) {
+  const live = Object.entries(known.mappings || {}).filter(([, mapping]) => mapping.until > now), put = (change.put || []).map(([number]) => String(number));
+  return listOf(live.map(([number, mapping]) => {
     const port = mapping.port ? `port ${mapping.port}` : 'a port that the report doesn\'t tell';
-    return `${mapping.client}: ${port}, lets in ${whoUntil(mapping.peers, now)}`;
+    return [`${mapping.client}: ${port}, lets in ${whoUntil(mapping.peers, now)}`, put.includes(number)];
   }), 'no live mapping: nobody gets in');
 }
 
@@ -69,9 +76,9 @@ function whoUntil(peers, now) {
   }).join('; ');
 }
 
-function peersOf(known, now) {
-  const lines = Object.entries(known.peers || {}).map(([name, peer]) => peerText(name, peer, now)).filter(Boolean);
-  return listOf(lines, 'knows no peer');
+function peersOf(known, now, change) {
+  const lines = Object.entries(known.peers || {}).map(([name, peer]) => [peerText(name, peer, now), name in (change.peers || {})]);
+  return listOf(lines.filter(([text]) => text), 'knows no peer');
 }
 
 function peerText(name, peer, now) {
@@ -97,7 +104,25 @@ function peerText(name, peer, now) {
 function listPackets() {
   const { view } = state;
   get('packets-part').hidden = !view.packets.length;
-  get('packets').replaceChildren(...view.packets.map((packet) => make('li', '', button(packet.said, () => step(packet.record - view.first), packet.state))));
+  get('packets').replaceChildren(...view.packets.map((packet) => {
+    const made = make('li', '', button(packet.said, () => leadTo(packet.record), packet.state));
+    if (packet.end !== packet.record) made.append(' ', button(`its end: record ${packet.end}`, () => leadTo(packet.end)));
+    return made;
+  }));
+}
+
+// Leads to a record by its number, also to one that isn't among those that are shown.
+async function leadTo(index) {
+  const { view } = state, isHere = (at) => at >= 0 && at < view.records.length;
+  if (isHere(index - view.first)) {
+    step(index - view.first);
+  } else if (data.is_alone) {
+    say(`this page doesn't have record ${index}: ./teredo web shows all`);
+  } else {
+    state.first = index - index % view.most;
+    state.at = index - state.first;
+    await play();
+  }
 }
 
 function drawMatrix() {

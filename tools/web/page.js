@@ -4,6 +4,7 @@
 const TYPING_MS = 350, STEP_MS = 750, TRAVEL_MS = 550;
 const LINE_HEIGHT = 18, EDITOR_TOP = 6, HEAD_HEIGHT = 46;   // pixels
 const PEERS_SHOWN = 12;
+const FIT_MIN = 0.923, FIT_MAX = 1.25, ZOOM_MIN = 0.4, ZOOM_MAX = 3, ZOOM_STEP = 1.2;   // of the ladder; at the least its letters of 13 pixels have 12
 const FRAGMENT_MAX = 60000;   // letters of an address
 const SVG = 'http://www.w3.org/2000/svg';
 const STILL = matchMedia('(prefers-reduced-motion: reduce)');
@@ -11,7 +12,7 @@ const STILL = matchMedia('(prefers-reduced-motion: reduce)');
 const data = JSON.parse(document.getElementById('data').textContent);
 const PEERS = data.peers;   // the numbers of docs/RULES.md, "Peers"
 const get = (id) => document.getElementById(id);
-const state = { name: data.name, text: data.text, view: null, at: 0, first: 0, asked: 0, answered: 0, timer: 0, running: 0, before: null };
+const state = { name: data.name, text: data.text, view: null, at: null, first: 0, opened: null, zoom: 0, scale: 1, asked: 0, answered: 0, timer: 0, running: 0, before: null };
 
 // An element with its class and what is in it: texts, and other elements.
 function make(tag, kind, ...parts) {
@@ -61,6 +62,7 @@ function show(view, goTo) {
   }
   state.view = view;
   state.first = view.first;
+  state.datagrams = new Map();
   showFaults([]);
   get('picture').classList.remove('stale');
   get('name').textContent = `${state.name}${view.chain ? ', chain ' + view.chain : ''}`;
@@ -72,7 +74,7 @@ function show(view, goTo) {
   showWindow();
   const last = view.records.length - 1;
   get('at').max = Math.max(0, last);
-  const wanted = goTo === undefined ? state.at : view.records.findIndex((record) => record.event >= goTo);
+  const wanted = goTo === undefined ? state.at ?? view.opening : view.records.findIndex((record) => record.event >= goTo);
   step(Math.min(Math.max(0, wanted), Math.max(0, last)));
 }
 
