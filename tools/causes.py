@@ -1,39 +1,18 @@
 """Why a packet was lost or waits: a sentence for each way, from what the report says happened before."""
 from __future__ import annotations
 
-import os
-import re
 from typing import TYPE_CHECKING
 
-import command
 import fates
+import tried
+from peer_times import FRESH_MS, LISTED_MS, TRY_GAP_MS
 from report import SOLICITATIONS, Entry, Loss, Mark, Record, Report, teredo_parts
 
 if TYPE_CHECKING:  # which itself asks this module for reasons
     from travel import Hold, Travels, Waiting
 
-
-def peer_ms(word: str) -> int:
-    """The milliseconds in what docs/RULES.md, "Peers", says of a word."""
-    page = command.read(os.path.join(command.TOP, 'docs', 'RULES.md')).partition('\n## Peers\n')[2]
-    found = re.search(rf'^\| {word} \| .*?([\d,]+) ms ago', page, re.M)
-    if not found:
-        raise command.Refusal(f'docs/RULES.md, "Peers", has no time for `{word}`')
-    return int(found[1].replace(',', ''))
-
-
-# How long a peer is trusted, and listed, after it was heard, and what lies between two tries.
-FRESH_MS, LISTED_MS, TRY_GAP_MS = peer_ms('fresh'), peer_ms('listed'), peer_ms('barred')
-TRIES = ('queued', 'bubbles', 'test', 'indirect', 'held_test', 'suspicious_test')
 TESTS = ('held_test', 'suspicious_test')
-DRAWS = ('queued', 'indirect', 'advert', 'echoed', 'forward', 'forward_origin', 'six', 'sent', 'sent_cone')
 HEARD = ('rule1', 'rule1_bubble', 'rule2', 'rule3', 'rule3_bubble')
-FATES = fates.table()
-
-
-def is_drop(fate: str) -> bool:
-    """Whether docs/SCENARIOS.md has a fate as a drop; of one that it doesn't have nobody knows."""
-    return fate in FATES and FATES[fate].is_drop
 
 
 def when(record: Record) -> str:
@@ -48,7 +27,7 @@ def of_drop(travels: Travels, record: Record) -> str:
     way = ways.get(record.fate)
     if way:
         return way(travels, record)
-    fate = FATES[record.fate]
+    fate = fates.FATES[record.fate]
     return fate.means + (f' (likely: {fate.cause})' if fate.cause else '')
 
 
@@ -178,31 +157,17 @@ def of_solicitation(travels: Travels, client: str, until: Record) -> str:
 # Tries
 
 
-def came_of(travels: Travels, mark: Mark, until: Record | None) -> Record | None:
-    """The first delivery of a mark before a record, or None."""
-    came = travels.report.delivered(mark) if isinstance(mark, Entry) else []
-    return next((record for record in came if until is None or record.index < until.index), None)
-
-
-def next_of(travels: Travels, mark: Mark, until: Record | None) -> Mark | None:
-    """The mark that a delivery of this one drew, or None: the bubble through the server, the answer, or what goes on."""
-    record = came_of(travels, mark, until)
-    if record is None or record.fate not in DRAWS or not record.marks:
-        return None
-    return record.marks[-1 if record.fate == 'queued' else 0]
-
-
 def last_of(travels: Travels, mark: Mark, until: Record | None = None) -> str:
     """How the chain of what a mark drew ended, as a sentence. Deliveries from a record on don't count."""
     if not isinstance(mark, Entry):
         return of_loss(mark)
-    drawn = next_of(travels, mark, until)
+    drawn = tried.next_of(travels, mark, until)
     if drawn is not None:
         return last_of(travels, drawn, until)
-    record, content = came_of(travels, mark, until), travels.report.content(mark)
+    record, content = tried.came_of(travels, mark, until), travels.report.content(mark)
     if record is None:
         return of_undelivered(travels, mark)
-    if is_drop(record.fate):
+    if fates.is_drop(record.fate):
         return f'#{mark.number}, the {content}, ended at {place(record)}, {record.fate}: {of_drop(travels, record)}'
     return f'#{mark.number}, the {content}, came to {record.node}: {record.fate}'
 
@@ -211,46 +176,17 @@ def place(record: Record) -> str:
     return record.node if record.node != '-' else 'nobody'
 
 
-def tries_of(travels: Travels, wait: Waiting, until: Record | None = None) -> list[Record]:
-    """The records in which the node of a wait tried its peer, from the packet on that was the first to wait."""
-    first = wait if wait.since.marks else first_wait(travels, wait)
-    records = [first.since] + [record for record in travels.report.of_node(wait.since.node, until)
-                               if record.index > first.since.index and record.fate in ('bubbles', 'test')]
-    return [record for record in records if record.marks and is_of_peer(first, record)]
-
-
-def first_wait(travels: Travels, wait: Waiting) -> Waiting:
-    """The latest packet before that waited for the same peer, and for which a try went out."""
-    for other in reversed(list(travels.waits.values())):
-        if other.since.index < wait.since.index and other.since.node == wait.since.node and other.since.marks \
-                and other.peer == wait.peer:
-            return other
-    return wait
-
-
-def is_of_peer(wait: Waiting, record: Record) -> bool:
-    if record is wait.since or wait.endpoint is None:
-        return True
-    return wait.endpoint in [mark.target for mark in record.marks]
-
-
-def hops(travels: Travels, mark: Mark, until: Record | None) -> int:
-    """How far a mark came: the deliveries of the chain that it drew."""
-    drawn = next_of(travels, mark, until)
-    return 0 if drawn is None else 1 + hops(travels, drawn, until)
-
-
 def of_tries(travels: Travels, tries: list[Record], until: Record | None = None) -> str:
     """What became of the try that came furthest, and of the latest where none did."""
     if not tries:
         return 'no bubble and no test went out for it, since its peer is barred'
     marks = [record.marks[-1] for record in tries]
-    furthest = max(marks, key=lambda mark: (hops(travels, mark, until), mark.maker.index))
+    furthest = max(marks, key=lambda mark: (tried.hops(travels, mark, until), mark.maker.index))
     return last_of(travels, furthest, until)
 
 
 def of_waiting(travels: Travels, wait: Waiting) -> str:
-    return of_lost_trust(travels, wait) + of_tries(travels, tries_of(travels, wait))
+    return of_lost_trust(travels, wait) + of_tries(travels, tried.tries_of(travels, wait))
 
 
 def of_given_up(travels: Travels, wait: Waiting, record: Record) -> str:
@@ -259,7 +195,7 @@ def of_given_up(travels: Travels, wait: Waiting, record: Record) -> str:
         return f'it waited at {record.node}, which was restarted {when(record)}'
     if record.fate == 'changed':
         return f'it waited at {record.node}, whose address changed {when(record)}'
-    return of_lost_trust(travels, wait) + unanswered(travels, tries_of(travels, wait, record), record)
+    return of_lost_trust(travels, wait) + unanswered(travels, tried.tries_of(travels, wait, record), record)
 
 
 def unanswered(travels: Travels, tries: list[Record], until: Record) -> str:
@@ -269,7 +205,7 @@ def unanswered(travels: Travels, tries: list[Record], until: Record) -> str:
 def of_lost_trust(travels: Travels, wait: Waiting) -> str:
     """That the peer was trusted before, where the report shows it."""
     report, node = travels.report, wait.since.node
-    heard = [record for record in report.of_node(node, wait.since) if record.fate in HEARD and is_from(travels, record, wait)]
+    heard = [record for record in report.of_node(node, wait.since) if record.fate in HEARD and tried.is_from(travels, record, wait)]
     if not heard or [record for record in report.of_node(node, wait.since)
                      if record.index > heard[-1].index and (record.act == 'restart' or record.fate == 'changed')]:
         return ''
@@ -279,31 +215,12 @@ def of_lost_trust(travels: Travels, wait: Waiting) -> str:
     return f'trust has expired: {node} heard nothing from there for {silence:,} ms; '
 
 
-def is_from(travels: Travels, record: Record, wait: Waiting) -> bool:
-    entry = travels.report.came_by(record)
-    if wait.peer:
-        name = travels.origin(entry)[0]
-        return wait.peer in (name, travels.report.address_at(name, record))
-    return wait.endpoint in (None, entry.source)
-
-
 def of_barred(travels: Travels, record: Record) -> str:
-    tries = tries_before(travels, record)
+    tries = tried.tries_before(travels, record)
     gap = record.moment - tries[-1].moment if tries else TRY_GAP_MS
     if record.delivered is not None and gap < TRY_GAP_MS:
         return f'the latest bubble to this peer went out {gap:,} ms before, and {TRY_GAP_MS:,} ms lie between two'
     return unanswered(travels, tries, record)
-
-
-def tries_before(travels: Travels, record: Record) -> list[Record]:
-    """The tries at the peer of a packet that is barred."""
-    peer = travels.targets[record.event] if record.delivered is None and record.event < len(travels.targets) else None
-    waits = [wait for wait in travels.waits.values() if peer and wait.since.index < record.index
-             and (wait.since.node, wait.peer) == (record.node, peer)]
-    if waits:
-        return tries_of(travels, waits[-1], record)
-    return [other for other in travels.report.of_node(record.node, record)
-            if other.fate in TRIES and other.marks and record.moment - other.moment < LISTED_MS]
 
 
 # The rest

@@ -24,7 +24,7 @@ import sys
 
 sys.dont_write_bytecode = True
 
-import causes
+import fates
 import chains
 import command
 import toml_places
@@ -89,7 +89,7 @@ def unmet(text, written):
             if met:
                 after[expected.event] = met[0]
             else:
-                there = '\n    '.join(command.red(lines[at], causes.is_drop(words[5])) for at, words in records) or 'none'
+                there = '\n    '.join(command.red(lines[at], fates.is_drop(words[5])) for at, words in records) or 'none'
                 found.append(f'{expected.line}: expected {said}, and the records of event {expected.event} are:\n    {there}')
     return found
 

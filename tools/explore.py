@@ -18,13 +18,13 @@ import sys
 
 sys.dont_write_bytecode = True
 
-import causes
 import chains
 import command
 import probes
 import toml_places
 import travel
 import workers
+from fates import is_drop
 from report import Report
 
 MOST = 100_000  # schedules, where no other number is named
@@ -209,7 +209,7 @@ def lines_of(found, is_all, packet):
     width = len(f'{max(found.counts.values(), default=0):,}')
     for (fates, has_arrived), count in sorted(found.counts.items(), key=lambda kind: (-kind[1], kind[0])):
         said = ('arrives  ' if has_arrived else 'never    ') if is_packet else ''
-        words = ' '.join(command.red(fate, causes.is_drop(fate)) for fate in fates)
+        words = ' '.join(command.red(fate, is_drop(fate)) for fate in fates)
         lines.append(f'{count:>{width},}  {said}{words or "nothing is delivered"}')
         lines += [f'{"":{width}}  without {name}' for name in found.lost[fates, has_arrived]]
         numbers = found.firsts[fates, has_arrived]

@@ -46,3 +46,11 @@ def table() -> dict[str, Fate]:
         for word in re.findall(r'`(\w+)`', name):
             found[word] = Fate(word, name.startswith('**'), plain(of), plain(means), plain(cause), plain(look))
     return found
+
+
+FATES = table()
+
+
+def is_drop(fate: str) -> bool:
+    """Whether docs/SCENARIOS.md has a fate as a drop; of one that it doesn't have nobody knows."""
+    return fate in FATES and FATES[fate].is_drop

@@ -14,8 +14,8 @@ from typing import Any
 
 sys.dont_write_bytecode = True
 
-import causes
 import command
+import fates
 from report import Entry, Mark, Record, Report
 from trace import load
 
@@ -37,7 +37,7 @@ def line_of(record: Record) -> dict[str, Any]:
         line['of'] = int(number)
     if record.node != '-':
         line['node'] = record.node
-    line |= {'fate': record.fate, 'drop': causes.is_drop(record.fate)}
+    line |= {'fate': record.fate, 'drop': fates.is_drop(record.fate)}
     had = {'address': record.address, 'handed': record.handed, 'late': record.late, 'gone': record.gone,
            'marks': [mark_of(mark) for mark in record.marks]}
     return line | {key: value for key, value in had.items() if value or value == 0 and key == 'handed'}

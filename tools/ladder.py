@@ -4,8 +4,8 @@ from __future__ import annotations
 from collections.abc import Iterable, Iterator
 from dataclasses import dataclass
 
-import causes
 import command
+import fates
 import topology
 from report import NO_ENTRY, Entry, Loss, Mark, Record, Report
 from topology import Topology
@@ -94,7 +94,7 @@ class Ladder:
 
     def row_of(self, record: Record) -> Row:
         entry = self.report.entry_of(record)
-        is_drop = causes.is_drop(record.fate)
+        is_drop = fates.is_drop(record.fate)
         fate = ' '.join([record.act if record.fate == 'done' else record.fate] + notes(record))
         if entry is None:
             return Row(record.index, record.moment, self.name(record), None, '', line_of(record), fate, is_dropped=is_drop)

@@ -10,11 +10,11 @@ from __future__ import annotations
 from dataclasses import dataclass, field
 from typing import Any
 
-from causes import TRIES
 from chains import Table
 from report import Entry, Mark, Record
 from topology import Topology
 from travel import RELEASES, Travels
+from tried import TRIES
 
 Patch = dict[str, Any]  # what changes at a node, for the page's script
 Key = tuple[str, ...]  # of a mapping: the client, and behind it the targets that a symmetric NAT tells apart

@@ -16,19 +16,19 @@ import sys
 
 sys.dont_write_bytecode = True
 
-import causes
 import chains
 import command
 import moments
 import packets
 import parts
+import peer_times
 import player
 import probes
 import view
 
 FOLDER = os.path.join(command.TOP, 'tools', 'web')
 SCRIPTS = ('page.js', 'links.js', 'ladder.js', 'parts.js', 'nodes.js', 'choices.js')  # which make one script, in this order
-PEERS = {'fresh': causes.FRESH_MS, 'listed': causes.LISTED_MS, 'gap': causes.TRY_GAP_MS, 'tries': moments.TRIES_MAX}
+PEERS = {'fresh': peer_times.FRESH_MS, 'listed': peer_times.LISTED_MS, 'gap': peer_times.TRY_GAP_MS, 'tries': moments.TRIES_MAX}
 CAPTURE_MAX = 1 << 20  # bytes of a capture that are put into a page
 PARTS_MAX = 256  # different datagrams whose parts are put into a page
 PROBES_MAX = 24  # pairs whose next packet is played for a page

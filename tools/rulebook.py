@@ -3,7 +3,6 @@ import os
 import re
 from dataclasses import dataclass
 
-import causes
 import command
 import fates
 
@@ -65,8 +64,8 @@ def shown(row):
 
 def told(record, kind):
     """What both pages say of a record, as a dictionary of texts."""
-    fate = causes.FATES.get(record.fate)
-    said = {'rules': [shown(row) for row in rows_of(record, kind)], 'is_drop': causes.is_drop(record.fate)}
+    fate = fates.FATES.get(record.fate)
+    said = {'rules': [shown(row) for row in rows_of(record, kind)], 'is_drop': fates.is_drop(record.fate)}
     if fate:
         said |= {'means': fate.means, 'cause': fate.cause, 'look': fate.look}
     return said

@@ -5,7 +5,7 @@ Of a report alone the kinds are told from the fates, as far as they go, and nobo
 from collections.abc import Collection
 from dataclasses import dataclass, field
 
-import causes
+import fates
 import chains
 import toml_places
 from chains import Table
@@ -76,7 +76,7 @@ def guessed(report: Report) -> Topology:
     """What the fates of a report tell of its nodes."""
     found = Topology()
     for node, records in report.by_node.items():
-        letters = [set(causes.FATES[record.fate].of.replace(' ', '').split(',')) for record in records if record.fate in causes.FATES]
+        letters = [set(fates.FATES[record.fate].of.replace(' ', '').split(',')) for record in records if record.fate in fates.FATES]
         known = set.intersection(*letters) if letters else set()
         kinds = [kind for letter, kind in LETTERS.items() if letter in known]
         if node != '-':

@@ -19,6 +19,7 @@ sys.dont_write_bytecode = True
 
 import causes
 import command
+import fates
 import matrix
 import travel
 from matrix import Before
@@ -53,7 +54,7 @@ def title(record: Record, events: list[str]) -> str:
 
 def outcome(record: Record) -> str:
     """Who decided, and what."""
-    words = [record.node + ':' if record.node != '-' else '', command.red(record.fate, causes.is_drop(record.fate))]
+    words = [record.node + ':' if record.node != '-' else '', command.red(record.fate, fates.is_drop(record.fate))]
     words += [f'is {record.address}'] if record.address else []
     words += [f'handed {record.handed} bytes'] if record.handed is not None else []
     words += [f'handed {length} bytes that were held' for length in record.late]
@@ -68,7 +69,7 @@ class Tree:
         self.travels, self.report, self.lines = travels, travels.report, list[str]()
 
     def said(self, record: Record) -> str:
-        has_cause = causes.is_drop(record.fate) and not record.gone
+        has_cause = fates.is_drop(record.fate) and not record.gone
         return outcome(record) + (': ' + causes.of_drop(self.travels, record) if has_cause else '')
 
     def add(self, record: Record, depth: int) -> None:
@@ -120,7 +121,7 @@ def packet_line(travels: Travels, record: Record, events: list[str], before: Bef
 
 def explained(word: str) -> list[str]:
     """The line of docs/SCENARIOS.md on a fate."""
-    fate = causes.FATES.get(word)
+    fate = fates.FATES.get(word)
     if fate is None:
         return []
     lines = [f'{word}, of {fate.of}: {fate.means}']

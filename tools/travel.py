@@ -11,6 +11,7 @@ from typing import TypeVar
 
 import causes
 import command
+import fates
 from report import Entry, Mark, Record, Report
 
 HANDED_IN = ('host', 'echo', 'raw')
@@ -183,7 +184,7 @@ class Travels:
 
     def end_of_drop(self, record: Record) -> End:
         """A record that lets nothing go on: a drop, or a fate of which no more is known."""
-        if not causes.is_drop(record.fate):
+        if not fates.is_drop(record.fate):
             return End(CAME, record)
         return End(LOST, record, causes.of_drop(self, record))
 

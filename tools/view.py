@@ -6,6 +6,7 @@ import bisect
 
 import causes
 import chains
+import fates
 import ladder_svg
 import lint
 import matrix
@@ -116,7 +117,7 @@ class View:
 
     def reasons(self, record):
         """Why what a record is about came no further: what was dropped, what wasn't sent, and each packet of a host that ends here."""
-        found = [causes.of_drop(self.travels, record)] if causes.is_drop(record.fate) and not record.gone else []
+        found = [causes.of_drop(self.travels, record)] if fates.is_drop(record.fate) and not record.gone else []
         found += [f'!{loss.word}: {causes.of_loss(loss)}' for loss in record.losses]
         ended = [(reason, events) for reason, events in self.ends.get(record.index, {}).items() if reason not in ' '.join(found)]
         return found + [f'the packet{"s" * (len(events) > 1)} of event{"s" * (len(events) > 1)} {", ".join(map(str, events))}: {reason}' for reason, events in ended]
@@ -141,7 +142,7 @@ class View:
         """The record that matters first: where the first packet ended that was lost, else where the first one was handed in, else the first
         drop. One that isn't shown here is passed over."""
         lost = [end.record.index for _, end in self.handed_in if end.state == travel.LOST]
-        drops = (record.index for record in self.records if causes.is_drop(record.fate))
+        drops = (record.index for record in self.records if fates.is_drop(record.fate))
         known = (at - self.first for at in [*lost[:1], *(record.index for record, _ in self.handed_in[:1]), *drops])
         return next((at for at in known if 0 <= at < len(self.records)), 0)
 

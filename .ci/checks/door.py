@@ -14,7 +14,7 @@ import sys
 import tempfile
 
 import build
-import causes
+import fates
 import chains
 import command
 import report
@@ -245,7 +245,7 @@ def faults_of_pipes(folder):
     done = subprocess.run(['bash', '-c', script], stdout=subprocess.PIPE, stderr=subprocess.PIPE, timeout=60)
     if done.stderr or len(done.stdout.splitlines()) != 2:
         found.append(f'{script}: {done.stdout!r}, {done.stderr!r}')
-    drops = sum(causes.is_drop(record.fate) for record in report.Report(command.read(words[1] + '.stdout')).records)
+    drops = sum(fates.is_drop(record.fate) for record in report.Report(command.read(words[1] + '.stdout')).records)
     for env, due in (({}, drops), ({'NO_COLOR': '1'}, 0)):
         shown = on_terminal([f'{folder}/teredo', *words], {'PATH': plain_path(), 'TERM': 'xterm', **env})
         if shown.count('\x1b[31m') != due or re.sub('\x1b\\[\\d+m|\r', '', shown) != command.read(words[1] + '.stdout'):
@@ -270,7 +270,7 @@ def check_colours(program):
 def reds(shown):
     """Whether all that is red tells of a drop."""
     words = re.findall('\x1b\\[31m(.*?)\x1b\\[0m', shown)
-    known = {'lost', *(fate for fate in causes.FATES if causes.is_drop(fate))}
+    known = {'lost', *(fate for fate in fates.FATES if fates.is_drop(fate))}
     return words and all(set(re.findall(r'\w+', word)) & known or '!' in word or 'never delivered' in word for word in words)
 
 

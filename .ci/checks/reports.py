@@ -17,7 +17,7 @@ import re
 from xml.etree import ElementTree
 
 import capture
-import causes
+import peer_times
 import command
 import flow
 import generated
@@ -44,8 +44,8 @@ DRAWN = {'two_port_restricted': ['--from', '34', '--nodes', 'a,n1,s1,n2,b'],
          'two_carriers': ['--from', '20', '--to', '25', '--nodes', 'a,home1,carrier1,s1,carrier2,home2,b']}
 # A number of a tool, and the constant of the code that it has to be.
 NUMBERS = (
-    (causes.FRESH_MS, 'peer_list/src/limits.rt', 'FRESH_MS'), (causes.LISTED_MS, 'peer_list/src/limits.rt', 'LISTED_MS'),
-    (causes.TRY_GAP_MS, 'peer_list/src/limits.rt', 'TRY_GAP_MS'), (moments.TRIES_MAX, 'peer_list/src/limits.rt', 'TRIES_MAX'),
+    (peer_times.FRESH_MS, 'peer_list/src/limits.rt', 'FRESH_MS'), (peer_times.LISTED_MS, 'peer_list/src/limits.rt', 'LISTED_MS'),
+    (peer_times.TRY_GAP_MS, 'peer_list/src/limits.rt', 'TRY_GAP_MS'), (moments.TRIES_MAX, 'peer_list/src/limits.rt', 'TRIES_MAX'),
     (web.TEXT_MAX, 'scenario/src/reader.rt', 'TEXT_MAX'), (capture.PIECE_BYTES, 'commands/src/audit_file.rt', 'CAPTURE_MAX'),
     (generated.COUNT_MAX, 'events/src/event.rt', 'EVENTS_MAX'))
 
