@@ -61,6 +61,8 @@ def bodies(running):
     for sent in ({'text': '', 'from': 'a"', 'to': 'b'}, {'text': '', 'from': ['a'], 'to': 'b'}, {'text': 'x = [', 'from': 'a', 'to': 'b'},
                  {'from': 'a', 'to': 'b'}):
         yield 422, {**play, 'path': f'/{running.secret}/probe', 'body': json.dumps(sent).encode()}
+    for sent in ({}, {'text': ''}, {'text': command.read(EXAMPLE)}, *({'text': command.read(EXAMPLE), 'number': number} for number in (-1, 10 ** 6, '0', 1.5, True, None))):
+        yield 422, {**play, 'path': f'/{running.secret}/datagram', 'body': json.dumps(sent).encode()}
 
 
 def check_requests(program):

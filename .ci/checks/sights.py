@@ -1,6 +1,7 @@
 """What is seen of the laboratory in Chromium: no letter that is too small or too faint, Tab in the order in which one reads, no meaning
 in a title alone, every NAT of a way in the picture, 10,000 records, and a scenario in a link. `tour` goes through it.
 """
+import itertools
 import os
 
 import command
@@ -45,12 +46,13 @@ for (const one of document.querySelectorAll('body *')) {
 }
 return found;
 """
-# Where each thing stands that Tab comes to, in the order of Tab: its column, its row, and what it is.
+# Where each thing stands that Tab comes to, in the order of Tab: its part of the page with that part's place, its own place, and what it is.
 TABBED = """
 return [...document.querySelectorAll('main a, main button, main input, main textarea, main summary, main [tabindex]')]
   .filter((one) => !one.disabled && one.getClientRects().length && !one.closest('#picture svg'))
-  .map((one) => [one.getBoundingClientRect(), one.id || one.textContent.slice(0, 20)])
-  .map(([box, name]) => [Math.round(box.left), Math.round(box.top + scrollY), Math.round(box.height), name]);
+  .map((one) => [one.closest('section'), one.getBoundingClientRect(), one.id || one.textContent.slice(0, 20)])
+  .map(([part, box, name]) => [part.id, Math.round(part.getBoundingClientRect().top + scrollY), Math.round(part.getBoundingClientRect().left),
+    Math.round(box.top + scrollY), Math.round(box.height), name]);
 """
 
 
@@ -77,17 +79,18 @@ class Sights:
         self.browser.look()
 
     def reading(self):
-        """Tab goes down a column and then down the next one, also on a phone, which has one; and no meaning stands in a title alone."""
+        """Tab goes through one part of the page and then through the one beside it or below it, and in each downwards, also on a phone; and no
+        meaning stands in a title alone."""
         for width in (None, 390):
             self.begin()
             self.browser.look('light', width)
             self.browser.open(self.running.address)
             self.browser.run('get("steps-part").open = false')
             stops = self.browser.run(TABBED)
-            middle = self.browser.run('return get("second-column").getBoundingClientRect().left') if width is None else 1e9
-            order = [(left >= middle, top + height) for left, top, height, _ in stops]
-            wrong = [(one, other) for one, other, before, after in zip(stops, stops[1:], order, order[1:]) if after[0] < before[0]
-                     or after[0] == before[0] and after[1] < before[1] - 40]
+            wrong = [(one, other) for one, other in zip(stops, stops[1:]) if
+                     (other[3] + other[4] < one[3] + one[4] - 40 if one[0] == other[0] else other[1] < one[1] - 40 and other[2] <= one[2])]
+            parts = list(dict.fromkeys(stop[0] for stop in stops))
+            wrong += [('parts', parts)] if [part for part, _ in itertools.groupby(stop[0] for stop in stops)] != parts else []
             self.must(len(stops) > 10 and not wrong, f'{width}: Tab goes from {wrong[:2]}')
             titles = self.browser.run('return [...document.querySelectorAll("[title]")].map((one) => one.outerHTML)')
             self.must(not titles, f'titles: {titles[:2]}')

@@ -26,7 +26,7 @@ class Tour(Sights):
             self.found.append(text)
 
     def whole(self):
-        for step in (self.steps, self.picture, self.edit, self.downloads, self.examples, self.two, self.address, self.matrix, self.narrow,
+        for step in (self.steps, self.datagrams, self.picture, self.edit, self.downloads, self.examples, self.two, self.address, self.matrix, self.narrow,
                      self.crowded, self.legible, self.reading, self.ways, self.many, self.links, self.alone):
             try:
                 step()
@@ -61,6 +61,26 @@ class Tour(Sights):
         browser.keep('light_record')
         browser.look('dark')
         browser.keep('dark')
+
+    def datagrams(self):
+        """A click on a row of the ladder opens its datagram, its button shuts it and opens it again, and a fault is told."""
+        self.begin()
+        self.must(self.browser.run('return state.at === state.view.opening && state.at > 0'), 'the page does not open at the record that matters')
+        row = self.browser.run('return state.view.carried.indexOf(20)')
+        self.browser.run('document.querySelectorAll("#picture rect.hit")[arguments[0]].dispatchEvent(new MouseEvent("click"))', row)
+        self.must(self.browser.wait('get("record").querySelectorAll(".parts tr").length > 10'), 'a click on a row opens no datagram')
+        told = self.browser.run('return get("record").querySelector(".parts").textContent')
+        # The address of a: its server, the flags, and port 1024 and 198.51.100.1 with every bit turned.
+        self.must(all(word in told for word in ('c000 0201', '192.0.2.1', 'the cone bit is not set', 'fbff', '1024', '39cc 9bfe', '198.51.100.1', 'bubble, no bytes')),
+                  f'of a bubble is told {told}')
+        self.browser.keep('datagram')
+        for count in (0, 1):
+            self.browser.run('get("record").querySelector("button.entry").click()')
+            self.must(self.browser.wait('get("record").querySelectorAll(".parts table").length === arguments[0]', count)
+                      and self.browser.run('return document.activeElement.classList.contains("entry")'), f'a button leaves {1 - count} datagrams open')
+        self.shows('two_homes')
+        self.browser.run('step(0); get("record").querySelector("button.entry").click()')
+        self.must(self.browser.wait('get("record").querySelector(".parts").textContent.includes("no capture is made with a chain")'), 'it does not say why there are no bytes')
 
     def picture(self):
         """What is drawn is what `flow` makes, apart from the marks of the page."""

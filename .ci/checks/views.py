@@ -3,6 +3,7 @@
 - Each example: the view has each record with its rule and each arrow, and its picture is `flow --svg`'s.
 - Who reaches whom is what `reach` says; a click on a pair leads to its packet, which comes where the word says so.
 - A page that `page` writes has all in itself, and nothing of a scenario can end its script.
+- The bytes of each datagram are those of the capture, with what `show` says; a page opens at the first record that matters.
 - Where nothing is built the examples are shown from their reports, and nothing else; `page` alone makes a trial, and says so.
 - Two hosts from each menu are played, and what is no choice is refused.
 """
@@ -20,6 +21,7 @@ import gallery
 import matrix
 import moments
 import page
+import parts
 import player
 import probes
 import view
@@ -155,6 +157,46 @@ def check_pages(program):
     done = subprocess.run([sys.executable, os.path.join(TOP, 'tools', 'page.py'), EXAMPLE, '--program', program], stdout=subprocess.PIPE, timeout=60)
     if done.stdout.decode() != page.page_of(playing, command.read(EXAMPLE), os.path.basename(EXAMPLE)):
         found.append('page FILE writes another page')
+    return found
+
+
+def check_datagrams(program):
+    """Of a page every datagram that it shows: its bytes are those of the capture, in order, and what is said of them is what `show` says.
+    Where no capture is made, the page says why."""
+    found, playing = [], player.Player(program)
+    for path in (EXAMPLE, os.path.join(TOP, 'examples', 'scenarios', 'client_to_native.toml'), os.path.join(TOP, 'examples', 'scenarios', 'server_table.toml')):
+        text = command.read(path)
+        shown = view.view_of(playing, text, 'x')
+        made, carried = page.bytes_of(playing, text, shown)['datagrams'], parts.payloads(playing.wire(text)[1])
+        lengths = [int(length) for length in re.findall(r' #\d+=\S+/(\d+)', command.read(path + '.stdout'))]
+        if [len(data) for data in carried] != lengths or sorted(made) != list(range(len(carried))):
+            found.append(f'{path}: {len(carried)} payloads, {len(made)} of them in the page, for {len(lengths)} entries')
+            continue
+        for number, data in enumerate(carried):
+            lines = subprocess.run([program, 'show', data.hex()], stdout=subprocess.PIPE).stdout.decode().splitlines()
+            said = ' '.join(str(one) for part in made[number] for one in (part['said'], *(word for row in part['parts'] for word in row)))
+            untold = [line for line in lines for word in re.findall(r'[\w.]*\d[\w.]*', line.partition(' ')[2])
+                      if word not in said and not line.startswith(('body', 'auth none', 'origin none'))]
+            if ''.join(part['hex'] for part in made[number]) != data.hex() or [part['at'] for part in made[number]][:1] != [0] or untold:
+                found.append(f'{path}: #{number}: {untold[:2]}, {str(made[number])[:300]}')
+    chained = os.path.join(TOP, 'examples', 'chains', 'two_homes.toml')
+    told = page.bytes_of(playing, command.read(chained), view.view_of(playing, command.read(chained), 'x'))
+    return found + ([] if told['datagrams'] == {} and 'no capture is made with a chain' in told['no_datagrams'] else [f'with a chain: {told}'])
+
+
+def check_openings(program):
+    """A page opens where a packet was lost first, else where one was handed in; and it says why, as `trace` does."""
+    found, playing = [], player.Player(program)
+    for name, due, why in (('chains/two_homes', ' give_up ', 'sender and peer are behind one NAT'), ('scenarios/lost_mapping', ' n1 nat_closed', 'its mapping is gone'),
+                           ('scenarios/symmetric_client', ' host a off', 'a NAT on its way is symmetric'), ('scenarios/failed_send', '!fault=', 'the send failed'),
+                           ('scenarios/restarted_relay', ' r1 unlisted', 'r1 was restarted'), ('scenarios/two_port_restricted', ' host a queued', ''),
+                           ('scenarios/peer_without_address', ' host a dest', 'b has no address'), ('scenarios/forgotten_client', ' nat_closed', 'was told to forget'),
+                           ('scenarios/no_such_host', ' give_up ', 'no native host'), ('scenarios/restarted_nat', ' nat_closed', 'n1 restarted'),
+                           ('chains/tree_of_nats', '!hairpin=', 'behind one NAT'), ('scenarios/unreachable_peer', ' give_up ', '4 tries got no answer')):
+        shown = view.view_of(playing, command.read(os.path.join(TOP, 'examples', f'{name}.toml')), 'x')
+        record = shown['records'][shown['opening']]
+        if due not in record['line'] or why not in ' '.join(record.get('why', [])) or bool(why) != ('why' in record):
+            found.append(f'{name} opens at {record["line"]}: {record.get("why")}')
     return found
 
 

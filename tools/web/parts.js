@@ -27,6 +27,7 @@ async function fillParts(place, number) {
 }
 
 async function partsOf(number) {
+  if (state.view.chain) throw new Error('no capture is made with a chain, so that the bytes of a datagram aren\'t known here');
   if (!data.is_alone) return (await ask('datagram', { text: state.text, number })).json();
   const known = (data.datagrams || {})[number];
   if (!known) throw new Error(data.no_datagrams || 'this page has no bytes');
