@@ -31,7 +31,7 @@ from scenario import Scenario
 
 STORED = os.path.join(HERE, 'stored', 'orders.txt')
 SURE = os.path.join(HERE, '..', 'docs', 'SURE.md')
-COURSES = os.path.join(HERE, '..', 'crates', 'first_packets', 'specs', 'Courses.antt')
+COURSES = os.path.join(HERE, '..', 'crates', 'theory_first_packets', 'specs', 'Courses.antt')
 SCENARIOS = os.path.join(HERE, '..', 'examples', 'scenarios')
 # The kind of the NAT of each kind of client, and keys of its own.
 KINDS = {'cone': ('cone', {}), 'no-bit': ('cone', {'cone_try': False}), 'restricted': ('restricted', {}), 'port': ('port', {})}

@@ -11,7 +11,7 @@ from scope import Scope
 from statements import Statements
 from wording import words
 
-GATHERS, HISTORIES, HISTORY = 'promises', 'legal', 'Full'
+GATHERS, HISTORIES, HISTORY = 'theory_promises', 'legal', 'Full'
 NOTHING = '⊥'
 OPENING, CLOSING = '([{', ')]}'
 # The type of a field that names a thing and states nothing of it.

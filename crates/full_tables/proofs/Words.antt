@@ -111,13 +111,13 @@ pub use Rattle.legal.specs.Next.{acts, address_of, blank, data_packet, delivers_
 unfoldable pub use Rattle.legal.specs.Next.{next}
 pub use Rattle.legal.specs.Past.{armed, armed_after, going, has_more, has_sends, journal, nat_history, nat_pasts, now, place, with_entries, words}
 pub use Rattle.legal.specs.Settings.{client_settings, server_settings}
-pub use Rattle.settled.specs.Clients.{asks_at, client_address, nat_behind}
-pub use Rattle.settled.specs.Settled.{IsSettled}
-pub use Rattle.first_packets.proofs.Given.{entry_given, given_here, waits_for_it}
-pub use Rattle.first_packets.proofs.Known.{not_full, not_spent, untried}
-pub use Rattle.first_packets.proofs.LawProofs.{full_receiver_hears_nothing, full_sender_drops}
-pub use Rattle.first_packets.proofs.Lists.{same_number}
-pub use Rattle.first_packets.specs.FirstPacket.{GoesBetween, HasArrived, HostHandsIn}
-pub use Rattle.first_packets.specs.NoRoom.{IsDropped, IsTurnedAway, IsUnheard}
-pub use Rattle.first_packets.specs.Schedules.{AreFresh, HasNoFault, IsComplete, is_fault}
+pub use Rattle.theory_settled.specs.Clients.{asks_at, client_address, nat_behind}
+pub use Rattle.theory_settled.specs.Settled.{IsSettled}
+pub use Rattle.theory_first_packets.proofs.Given.{entry_given, given_here, waits_for_it}
+pub use Rattle.theory_first_packets.proofs.Known.{not_full, not_spent, untried}
+pub use Rattle.theory_first_packets.proofs.LawProofs.{full_receiver_hears_nothing, full_sender_drops}
+pub use Rattle.theory_first_packets.proofs.Lists.{same_number}
+pub use Rattle.theory_first_packets.specs.FirstPacket.{GoesBetween, HasArrived, HostHandsIn}
+pub use Rattle.theory_first_packets.specs.NoRoom.{IsDropped, IsTurnedAway, IsUnheard}
+pub use Rattle.theory_first_packets.specs.Schedules.{AreFresh, HasNoFault, IsComplete, is_fault}
 pub use Rattle.full_tables.specs.FullTables.{FullReceiverFails, FullSenderFails, IsFirstWithRoom, Trial}

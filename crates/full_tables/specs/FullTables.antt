@@ -12,9 +12,9 @@ use Rattle.history.specs.Full.{Full}
 use Rattle.legal.specs.Lab.{Lab, Draws, flat_lab}
 use Rattle.legal.specs.Past.{now, journal}
 use Rattle.legal.specs.Legal.{Grown}
-use Rattle.settled.specs.Settled.{IsSettled}
-use Rattle.first_packets.specs.Schedules.{AreFresh, IsComplete}
-use Rattle.first_packets.specs.FirstPacket.{HostHandsIn, IsFirstPacket, GetsThrough}
+use Rattle.theory_settled.specs.Settled.{IsSettled}
+use Rattle.theory_first_packets.specs.Schedules.{AreFresh, IsComplete}
+use Rattle.theory_first_packets.specs.FirstPacket.{HostHandsIn, IsFirstPacket, GetsThrough}
 
 -- A TRIAL
 

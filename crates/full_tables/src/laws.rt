@@ -3,7 +3,7 @@ ghost use Rattle.full_tables.specs.FullTables.{IsFirstWithRoom, FullSenderFails,
 
 /// What these two say of the clients, the record and the packet is all that the theorem on first packets needs, but for
 /// room. With room at both it is a first packet. It is stated in `FullTables.antt`, with
-/// `first_packets/FirstPacket.antt`.
+/// `theory_first_packets/FirstPacket.antt`.
 pub fn first_with_room()
     ensures { IsFirstWithRoom }
 {}

@@ -1,6 +1,6 @@
 -- What the table of words asks of two clients, as a world answers it.
 use Rattle.reach_query.proofs.Words.{AreAlikeOfTwo, Bool, ClientHere, ClientNode, Full, Ip6, Lab, List, TwoClients, address_at, between_clients_row, embedded, false, has_cone, has_room, is_barred, is_fresh, is_led_to, is_on, is_settled, keeps_packets, known, not, now, outermost, peers_of, refl, true, two_clients, ℕ, ◌&&◌, ◌==◌, ◌||◌, ◌≡◌}
-use Rattle.reaching.specs.declared.word.Reach.TheVariants as word
+use Rattle.theory_reaching.specs.declared.word.Reach.TheVariants as word
 
 -- at a moment, where the two have these addresses
 abbrev pub asked_at : Lab → List Full → ClientHere → ClientHere → ℕ → (own other : Ip6) → TwoClients

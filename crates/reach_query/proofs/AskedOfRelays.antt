@@ -1,6 +1,6 @@
 -- What the tables of words ask of a client, a native host and its relay, as a world answers it.
 use Rattle.reach_query.proofs.Words.{AreAlike, Bool, ClientHere, ClientNode, Full, Ip6, Lab, List, NativeNode, None, Option, RelayNode, Relayed, Some, address_at, clients_of, embedded, false, from_native_row, has_cone, has_room, has_room_for_both, holds_most, is_barred, is_fresh, is_led_to, is_listed, is_on, is_settled, is_some, is_trusted_at, keeps_packets, known, not, now, option_map, peers_of, refl, relayed, to_native_row, true, ℕ, ◌&&◌, ◌||◌, ◌≡◌}
-use Rattle.reaching.specs.declared.word.Reach.TheVariants as word
+use Rattle.theory_reaching.specs.declared.word.Reach.TheVariants as word
 
 -- at a moment, where the client has this address
 abbrev pub asked_through : Lab → List Full → ClientHere → NativeNode → RelayNode → ℕ → Ip6 → Relayed

@@ -1,6 +1,6 @@
 -- A word on two hosts is short.
 use Rattle.reach_query.proofs.Words.{Reach, arith, length, reach_word, ◌≤◌}
-use Rattle.reaching.specs.declared.word.Reach.TheVariants as word
+use Rattle.theory_reaching.specs.declared.word.Reach.TheVariants as word
 
 pub word_short : (w : Reach) → length (reach_word w) ≤ 8
 word_short word.Off = omega arith

@@ -45,8 +45,8 @@ pub use Rattle.legal.specs.Lab.{Draws, Lab}
 pub use Rattle.legal.specs.Next.{address_at, address_of}
 pub use Rattle.legal.specs.Past.{journal, now}
 pub use Rattle.legal.specs.Settings.{primary_of}
-pub use Rattle.settled.specs.Clients.{asks_at, client_address}
-pub use Rattle.origins.specs.Sources.{outermost}
+pub use Rattle.theory_settled.specs.Clients.{asks_at, client_address}
+pub use Rattle.theory_origins.specs.Sources.{outermost}
 pub use Rattle.lab_nodes.specs.PlayedNode.{row_of}
 pub use Rattle.lab_nodes.specs.declared.played_node.PlayedNode.{PlayedNode}
 pub use Rattle.world.proofs.Routes.{there_at}
@@ -54,21 +54,21 @@ pub use Rattle.world.specs.Route.{IsThere, by_route}
 pub use Rattle.world.specs.World.{StandsFor, WorldState, lab_in}
 pub use Rattle.world.specs.declared.route.Route.{Route}
 pub use Rattle.world.specs.declared.route.Route.TheVariants.{Astray, Closed, Reaches}
-pub use Rattle.ways.specs.Ways.{has_symmetric, is_all_cone}
-pub use Rattle.reaching.specs.BetweenClients.{between_clients_row}
-unfoldable pub use Rattle.reaching.specs.BetweenClients.{two_clients}
-pub use Rattle.reaching.specs.Conditions.{clients_of, ends_at, has_room_for_both, is_on, is_settled_with, keeps_packets, peers_of}
-unfoldable pub use Rattle.reaching.specs.Conditions.{is_led_to, is_settled}
-pub use Rattle.reaching.specs.FromNative.{from_native_row}
-pub use Rattle.reaching.specs.Reach.{reach_between}
-unfoldable pub use Rattle.reaching.specs.Reach.{reach_of}
-pub use Rattle.reaching.specs.ReachLines.{Said, lines_of_said, said_from, said_line, said_of_all, said_of_each, said_total}
-unfoldable pub use Rattle.reaching.specs.ThroughRelay.{relayed}
-pub use Rattle.reaching.specs.ToNative.{to_native_row}
-pub use Rattle.reaching.specs.Words.{reach_word}
-pub use Rattle.reaching.specs.declared.clients_table.TwoClients.{TwoClients}
-pub use Rattle.reaching.specs.declared.relay_table.Relayed.{Relayed}
-pub use Rattle.reaching.specs.declared.word.Reach.{Reach}
+pub use Rattle.theory_ways.specs.Ways.{has_symmetric, is_all_cone}
+pub use Rattle.theory_reaching.specs.BetweenClients.{between_clients_row}
+unfoldable pub use Rattle.theory_reaching.specs.BetweenClients.{two_clients}
+pub use Rattle.theory_reaching.specs.Conditions.{clients_of, ends_at, has_room_for_both, is_on, is_settled_with, keeps_packets, peers_of}
+unfoldable pub use Rattle.theory_reaching.specs.Conditions.{is_led_to, is_settled}
+pub use Rattle.theory_reaching.specs.FromNative.{from_native_row}
+pub use Rattle.theory_reaching.specs.Reach.{reach_between}
+unfoldable pub use Rattle.theory_reaching.specs.Reach.{reach_of}
+pub use Rattle.theory_reaching.specs.ReachLines.{Said, lines_of_said, said_from, said_line, said_of_all, said_of_each, said_total}
+unfoldable pub use Rattle.theory_reaching.specs.ThroughRelay.{relayed}
+pub use Rattle.theory_reaching.specs.ToNative.{to_native_row}
+pub use Rattle.theory_reaching.specs.Words.{reach_word}
+pub use Rattle.theory_reaching.specs.declared.clients_table.TwoClients.{TwoClients}
+pub use Rattle.theory_reaching.specs.declared.relay_table.Relayed.{Relayed}
+pub use Rattle.theory_reaching.specs.declared.word.Reach.{Reach}
 pub use Rattle.reach_query.specs.Asked.{AreAlike, AreAlikeOfTwo}
 pub use Rattle.reach_query.specs.Hosts.{IsClientHere, IsHostHere, goes_to, host_number, node_of}
 pub use Rattle.reach_query.specs.PairLines.{AreCounted, AreCountsWithin, SaysPairs, counted_pairs}

@@ -1,11 +1,11 @@
 -- What a world looks at for the tables of words: what a line asks together with another thing needs no look where that one doesn't
 -- hold (RFC 4380, sections 5.2.4, 5.2.5 and 5.4).
 use Rattle.std.specs.Prelude.{◌≡◌}
-use Rattle.reaching.specs.declared.clients_table.TwoClients.{TwoClients}
-use Rattle.reaching.specs.BetweenClients.{between_clients_row}
-use Rattle.reaching.specs.declared.relay_table.Relayed.{Relayed}
-use Rattle.reaching.specs.ToNative.{to_native_row}
-use Rattle.reaching.specs.FromNative.{from_native_row}
+use Rattle.theory_reaching.specs.declared.clients_table.TwoClients.{TwoClients}
+use Rattle.theory_reaching.specs.BetweenClients.{between_clients_row}
+use Rattle.theory_reaching.specs.declared.relay_table.Relayed.{Relayed}
+use Rattle.theory_reaching.specs.ToNative.{to_native_row}
+use Rattle.theory_reaching.specs.FromNative.{from_native_row}
 
 -- the table on two clients says the same of what was looked at and of what it asks
 pub record AreAlikeOfTwo (seen asked : TwoClients) : Type 0 where

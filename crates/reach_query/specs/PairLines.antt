@@ -2,7 +2,7 @@
 use Rattle.std.specs.Prelude.{◌≡◌, ◌≤◌, ℕ, List, ◌++◌, length, map, count_by, Result, OnOk}
 use Rattle.topology.specs.Rows.{TopologyState}
 use Rattle.td_outside.specs.Sink.{SinkState}
-use Rattle.reaching.specs.ReachLines.{Said, said_line, says_within, says_shut, says_nothing}
+use Rattle.theory_reaching.specs.ReachLines.{Said, said_line, says_within, says_shut, says_nothing}
 use Rattle.reach_query.specs.declared.pair_counts.PairCounts.{PairCounts}
 use Rattle.sink_lines.specs.Lines.{Writing}
 

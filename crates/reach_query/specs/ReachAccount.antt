@@ -1,6 +1,6 @@
 -- What is written of who reaches whom.
 use Rattle.std.specs.Prelude.{[], ◌∷◌}
-use Rattle.reaching.specs.ReachLines.{reach_lines}
+use Rattle.theory_reaching.specs.ReachLines.{reach_lines}
 use Rattle.player.specs.Account.{Account}
 use Rattle.player.specs.Accounts.{wire_full}
 

@@ -6,7 +6,7 @@ ghost use Rattle.history.specs.Full.{Full};
 ghost use Rattle.legal.specs.Lab.{Draws, Lab};
 ghost use Rattle.legal.specs.Next.{address_at};
 ghost use Rattle.legal.specs.Settings.{primary_of};
-ghost use Rattle.reaching.specs.Conditions.{is_on, is_led_to, is_settled_with, is_settled};
+ghost use Rattle.theory_reaching.specs.Conditions.{is_on, is_led_to, is_settled_with, is_settled};
 ghost use Rattle.world.specs.World.{StandsFor, lab_in};
 ghost use Rattle.reach_query.specs.Hosts.{IsClientHere, goes_to};
 

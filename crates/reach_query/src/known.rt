@@ -1,7 +1,7 @@
 //! What a client or a relay knows of an address, by one look at its list: of an address that isn't listed nothing.
 ghost use Rattle.std.specs.Prelude.{◌≡◌, option_map, is_some};
 ghost use Rattle.peer_list.specs.Judged.{is_fresh, is_trusted_at, is_barred, holds_most};
-ghost use Rattle.reaching.specs.Conditions.{keeps_packets};
+ghost use Rattle.theory_reaching.specs.Conditions.{keeps_packets};
 ghost use Rattle.reach_query.specs.Looked.{known_of};
 
 use peer_list::Peer;

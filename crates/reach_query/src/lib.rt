@@ -4,22 +4,22 @@
 //! # What the layer above may rely on
 //!
 //! - Whatever history a world stands for, `word_on` gives the word on two nodes after it: who reaches whom, and why not
-//!   (`Reach.antt` of `reaching`). `is_host` says which numbers have one.
+//!   (`Reach.antt` of `theory_reaching`). `is_host` says which numbers have one.
 //! - At the end of a scenario `ReachWriter` is shown the world, and writes a line on each two hosts, with the word on them, and
 //!   how many there are (`specs/ReachAccount.antt`).
 //!
 //! # What it does not know
 //!
 //! How a world is played, and what it keeps: it asks the world for a node, for its NATs, and for the route of a datagram. Which
-//! word is on two nodes, and what a word promises, is said in `reaching`, when a listener is called in `player`.
+//! word is on two nodes, and what a word promises, is said in `theory_reaching`, when a listener is called in `player`.
 //!
 //! # Parts
 //!
 //! | module | holds | stated in |
 //! |---|---|---|
-//! | `two_hosts` | the word on two nodes | `specs/Hosts.antt`, `Reach.antt` of `reaching` |
-//! | `two_clients` | what the table of words asks of two clients, as far as it looks | `specs/Asked.antt`, `BetweenClients.antt` of `reaching` |
-//! | `through_relay` | what the tables ask of a client, a native host and its relay, as far | `specs/Asked.antt`, `ThroughRelay.antt` of `reaching` |
+//! | `two_hosts` | the word on two nodes | `specs/Hosts.antt`, `Reach.antt` of `theory_reaching` |
+//! | `two_clients` | what the table of words asks of two clients, as far as it looks | `specs/Asked.antt`, `BetweenClients.antt` of `theory_reaching` |
+//! | `through_relay` | what the tables ask of a client, a native host and its relay, as far | `specs/Asked.antt`, `ThroughRelay.antt` of `theory_reaching` |
 //! | `hosts` | hosts and relays with what is kept of them; whether a client is settled | `specs/Hosts.antt` |
 //! | `known` | what one look at a list of peers tells of an address | `specs/Looked.antt` |
 //! | `reach_writer` | `ReachWriter` | `specs/ReachAccount.antt` |

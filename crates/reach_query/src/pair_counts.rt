@@ -1,9 +1,9 @@
 //! How many pairs of hosts there are, by what is said of them.
 ghost use Rattle.std.specs.Prelude.{◌≡◌, ◌+◌, ℕ, [], ◌∷◌};
-ghost use Rattle.reaching.specs.ReachLines.{Said};
+ghost use Rattle.theory_reaching.specs.ReachLines.{Said};
 ghost use Rattle.reach_query.specs.PairLines.{counted_pairs, AreCountsWithin, AreCounted};
 
-use reaching::{Reach, ReachClass};
+use theory_reaching::{Reach, ReachClass};
 use topology::NODES_MAX;
 
 /// How many pairs of nodes there are at most.

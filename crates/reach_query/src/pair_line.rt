@@ -1,13 +1,13 @@
 //! The lines on pairs of hosts.
 ghost use Rattle.std.specs.Prelude.{◌≡◌, ◌+◌, ◌≤◌, ◌++◌, List, length, decimal, Some};
 ghost use Rattle.report.specs.Lines.{node_text};
-ghost use Rattle.reaching.specs.Words.{reach_word};
-ghost use Rattle.reaching.specs.ReachLines.{Said, said_line, said_total};
+ghost use Rattle.theory_reaching.specs.Words.{reach_word};
+ghost use Rattle.theory_reaching.specs.ReachLines.{Said, said_line, said_total};
 ghost use Rattle.reach_query.specs.PairLines.{counted_pairs};
 
 use crate::pair_counts::PairCounts;
-use reaching::Reach;
 use td_base::{LINE_LEN, LineBuf, NUMBER_LEN, print_number};
+use theory_reaching::Reach;
 use topology::{NAME_LEN, Topology};
 
 /// The most bytes of a word.

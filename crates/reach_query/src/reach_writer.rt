@@ -5,7 +5,7 @@ ghost use Rattle.topology.specs.declared.topology.TheConstants.{NODES_MAX};
 ghost use Rattle.topology.specs.Topology.{nodes};
 ghost use Rattle.history.specs.Full.{Full};
 ghost use Rattle.legal.specs.Lab.{Draws};
-ghost use Rattle.reaching.specs.ReachLines.{Said, said_line, said_total, said_from, said_of_each};
+ghost use Rattle.theory_reaching.specs.ReachLines.{Said, said_line, said_total, said_from, said_of_each};
 ghost use Rattle.world.specs.World.{StandsFor, lab_in};
 ghost use Rattle.sink_lines.specs.Lines.{Writing};
 ghost use Rattle.reach_query.specs.ReachAccount.{reach_account};
@@ -16,10 +16,10 @@ use crate::pair_line::{pair_line, pairs_total};
 use crate::two_hosts::{is_host, word_on};
 use history::Record;
 use player::{Listener, WIRE_FULL_LINE};
-use reaching::Reach;
 use sink_lines::write_line;
 use td_base::LineBuf;
 use td_outside::{Failed, Sink};
+use theory_reaching::Reach;
 use topology::Topology;
 use world::World;
 
@@ -142,7 +142,7 @@ impl<'a> ReachWriter<'a> {
         /// The listener of who reaches whom writes nothing of a record, and behind the last one a line on each pair of
         /// nodes on which there is a word, in their order, and then how many there are, by what is said of them. It
         /// does so as a listener.
-        /// Leaves open: what a word promises, which `reaching` says.
+        /// Leaves open: what a word promises, which `theory_reaching` says.
         ensures { result.topology.now ≡ topology.now }
     {
         ReachWriter { topology }

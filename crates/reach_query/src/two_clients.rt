@@ -4,8 +4,8 @@ ghost use Rattle.peer_list.specs.Judged.{is_barred};
 ghost use Rattle.client_core.specs.Client.{callable_from};
 ghost use Rattle.history.specs.Full.{Full};
 ghost use Rattle.legal.specs.Lab.{Draws};
-ghost use Rattle.reaching.specs.Conditions.{is_settled, keeps_packets};
-ghost use Rattle.reaching.specs.BetweenClients.{two_clients, between_clients_row};
+ghost use Rattle.theory_reaching.specs.Conditions.{is_settled, keeps_packets};
+ghost use Rattle.theory_reaching.specs.BetweenClients.{two_clients, between_clients_row};
 ghost use Rattle.world.specs.World.{StandsFor, lab_in};
 ghost use Rattle.reach_query.specs.Hosts.{IsClientHere};
 ghost use Rattle.reach_query.specs.Looked.{known_of};
@@ -14,9 +14,9 @@ ghost use Rattle.reach_query.specs.Asked.{AreAlikeOfTwo};
 use crate::hosts::{ClientHere, is_let_in};
 use crate::known;
 use peer_list::Peer;
-use reaching::{Reach, TwoClients};
 use td_base::Millis;
 use teredo_addr::{embedded, has_cone};
+use theory_reaching::{Reach, TwoClients};
 use world::World;
 
 /// Whether both clients are settled along their ways.

@@ -8,10 +8,10 @@ ghost use Rattle.history.specs.Full.{Full};
 ghost use Rattle.legal.specs.Lab.{Draws};
 ghost use Rattle.client_core.specs.Client.{callable_from};
 ghost use Rattle.relay_core.specs.Relay.{relay_callable_from};
-ghost use Rattle.reaching.specs.ThroughRelay.{relayed};
-ghost use Rattle.reaching.specs.ToNative.{to_native_row};
-ghost use Rattle.reaching.specs.FromNative.{from_native_row};
-ghost use Rattle.reaching.specs.Reach.{reach_between, reach_of};
+ghost use Rattle.theory_reaching.specs.ThroughRelay.{relayed};
+ghost use Rattle.theory_reaching.specs.ToNative.{to_native_row};
+ghost use Rattle.theory_reaching.specs.FromNative.{from_native_row};
+ghost use Rattle.theory_reaching.specs.Reach.{reach_between, reach_of};
 ghost use Rattle.world.specs.World.{StandsFor, lab_in};
 ghost use Rattle.reach_query.specs.Hosts.{IsClientHere, host_number, node_of, IsReadyHost, IsHostHere, IsRelayHere};
 
@@ -19,7 +19,7 @@ use crate::hosts::{ClientHere, HostHere, RelayHere};
 use crate::through_relay::{relayed_word_from, relayed_word_to};
 use crate::two_clients::word_between;
 use lab_nodes::PlayedNode;
-use reaching::Reach;
+use theory_reaching::Reach;
 use topology::NativeNode;
 use world::World;
 
@@ -133,7 +133,7 @@ fn host_here<'a>(world: &'a World<'_>, number: u16) -> Option<HostHere<'a>>
 pub fn word_on(world: &World<'_>, from: u16, to: u16) -> Option<Reach>
     /// For every history that a world stands for, `word_on` gives the word on two nodes, or none where they are no two
     /// hosts of which one is a client. This holds of a stopped world too, as long as it stands for its history.
-    /// Leaves open: what the word promises, which `reaching` says.
+    /// Leaves open: what the word promises, which `theory_reaching` says.
     ensures word { (d : Draws) (H : List Full) → StandsFor d world.now H → result ≡ reach_of (lab_in d world.now) H from to }
 {
     let sender = host_here(world, from)?;

@@ -24,12 +24,12 @@ pub use Rattle.player.specs.Accounts.{capture_account, report_account, totals_ac
 pub use Rattle.player.specs.Endings.{FitsWire, IsPlayed, WritesAll, WritesFull, WritesStarved}
 pub use Rattle.player.specs.declared.player.PlayFault.{PlayFault}
 pub use Rattle.player.specs.declared.player.PlayFault.TheVariants.{Failed, WireFull}
-pub use Rattle.wires.specs.HoldsWire.{HoldsWire}
-pub use Rattle.wires.specs.ReadsBack.{capture_text}
-pub use Rattle.ways.proofs.LawProofs.{asked_is_chained}
-pub use Rattle.reaching.proofs.LawProofs.{words_are_kept}
-pub use Rattle.promises.proofs.LawProofs.{kept_in_scenarios}
-pub use Rattle.promises.specs.Kept.{IsKeptSoFar}
+pub use Rattle.theory_wires.specs.HoldsWire.{HoldsWire}
+pub use Rattle.theory_wires.specs.ReadsBack.{capture_text}
+pub use Rattle.theory_ways.proofs.LawProofs.{asked_is_chained}
+pub use Rattle.theory_reaching.proofs.LawProofs.{words_are_kept}
+pub use Rattle.theory_promises.proofs.LawProofs.{kept_in_scenarios}
+pub use Rattle.theory_promises.specs.Kept.{IsKeptSoFar}
 pub use Rattle.reach_query.specs.ReachAccount.{reach_account}
 pub use Rattle.scenario.specs.Refusals.{refusal_line}
 unfoldable pub use Rattle.scenario.specs.Scenario.{scenario_of}

@@ -13,15 +13,15 @@ use Rattle.sink_lines.specs.Lines.{WritesLines, BeginsLines, WritesNothing}
 use Rattle.player.specs.Account.{Account}
 use Rattle.player.specs.Accounts.{report_account, totals_account, capture_account}
 use Rattle.player.specs.Endings.{WritesAll, WritesFull, WritesStarved, BeginsAccount}
-use Rattle.wires.specs.ReadsBack.{capture_text}
-use Rattle.wires.specs.HoldsWire.{HoldsWire}
+use Rattle.theory_wires.specs.ReadsBack.{capture_text}
+use Rattle.theory_wires.specs.HoldsWire.{HoldsWire}
 use Rattle.commands.specs.declared.audit_file.TheConstants.{CAPTURE_MAX}
 use Rattle.commands.specs.declared.statuses.TheConstants.{DONE, BAD_WORDS, BAD_SCENARIO, UNREADABLE, UNWRITABLE, NO_MEMORY, WIRE_FULL}
 use Rattle.teredo_app.specs.declared.scenario_file.TheConstants.{TEXT_READ_MAX}
 use Rattle.td_outside.specs.Source.{SourceState}
 use Rattle.commands.specs.Outside.{Outside, NoFault}
 use Rattle.commands.specs.SourceText.{TakesAtMost}
-use Rattle.promises.specs.Kept.{IsKeptSoFar}
+use Rattle.theory_promises.specs.Kept.{IsKeptSoFar}
 use Rattle.teredo_app.specs.Reads.{Reads, ReadsKept}
 use Rattle.commands.specs.Session.{ServeEnds}
 use Rattle.commands.specs.Audit.{AuditEnds}
@@ -49,7 +49,7 @@ pub record PlaysAll (a : Account) (i : SourceState) (o o' : SinkState) (file : L
   --   played: with 0, and with 5, 7 and 8 of the records whose lines were written. Either a `stranger` or a `copy` put
   --   the packet there, or a client's host had handed it in, byte for byte, while that source was the client's address,
   --   and it left that client's outermost NAT from there. It is stated in `Reads.antt`, `Ends.antt`, `Nested.antt`,
-  --   `Reach.antt`, with what that is in `promises/Kept.antt`, and the histories in `player/Endings.antt`.
+  --   `Reach.antt`, with what that is in `theory_promises/Kept.antt`, and the histories in `player/Endings.antt`.
   --   Needs: for the address, that no `stranger` and no `copy` has one of the two endpoints of the client's server as
   --   its source.
   --   Leaves open: who speaks for a relay; that nobody else had the address, since a port may be given again; that

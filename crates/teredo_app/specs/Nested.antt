@@ -7,7 +7,7 @@ use Rattle.td_outside.specs.Sink.{SinkState}
 use Rattle.td_outside.specs.Source.{SourceState}
 use Rattle.topology.specs.Chains.{Behind}
 use Rattle.events.specs.Scenario.{Scenario}
-use Rattle.promises.specs.Kept.{IsKeptSoFar}
+use Rattle.theory_promises.specs.Kept.{IsKeptSoFar}
 use Rattle.td_nested.specs.declared.nested_fault.NestedFault.TheVariants as fault
 use Rattle.td_nested.specs.Nested.{IsNested, IsDueFault, is_left_out}
 use Rattle.scenario.specs.declared.scenario_fault.ScenarioFault.{ScenarioFault}

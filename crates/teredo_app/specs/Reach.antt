@@ -6,10 +6,10 @@ use Rattle.td_outside.specs.Sink.{SinkState}
 use Rattle.td_outside.specs.Source.{SourceState}
 use Rattle.topology.specs.Chains.{Behind}
 use Rattle.events.specs.Scenario.{Scenario}
-use Rattle.promises.specs.Kept.{IsKeptSoFar}
+use Rattle.theory_promises.specs.Kept.{IsKeptSoFar}
 use Rattle.legal.specs.Lab.{lab_of}
 use Rattle.td_chain.specs.ChainText.{chain_asked}
-use Rattle.reaching.specs.Kept.{WordsKept}
+use Rattle.theory_reaching.specs.Kept.{WordsKept}
 use Rattle.scenario.specs.declared.scenario_fault.ScenarioFault.{ScenarioFault}
 use Rattle.scenario.specs.Refusals.{refusal_line}
 use Rattle.sink_lines.specs.Lines.{WritesLines, BeginsLines, WritesNothing}
@@ -49,7 +49,7 @@ pub record SaysWords (s : Scenario) (chain : List Behind) (o o' : SinkState) : T
   pub written : WritesAll reach_account s chain o o'
   -- | Where `reach` answers 0, each word keeps its promise, of this very history: the next packet comes within so many
   --   deliveries, or it doesn't come. The very test that the packet's record drew comes to a native host, whatever shut
-  --   word it is. It is stated in `Reach.antt`, `reaching/Kept.antt`, with the promises in `reaching/Promises.antt`.
+  --   word it is. It is stated in `Reach.antt`, `theory_reaching/Kept.antt`, with the promises in `theory_reaching/Promises.antt`.
   --   Needs: of `full` from one, that it isn't so only because of the four packets that the client holds of it.
   --   Leaves open: that anything is delivered.
   pub kept : WordsKept (lab_of s chain) written.history
@@ -74,7 +74,7 @@ pub record ReachEnds (i i' : SourceState) (o o' : SinkState) (file text : List �
   -- | 0 on `reach`: the text is a scenario, CHAIN asks for a chain of its NATs, and the word on each pair of hosts
   --   after its one legal history with that chain was written, a line each, and then the line of the sums. This holds
   --   whatever kinds of nodes and events the scenario has. It is stated in `Reach.antt`, `player/Endings.antt`, with
-  --   the lines in `reaching/ReachLines.antt`.
+  --   the lines in `theory_reaching/ReachLines.antt`.
   -- | See `NestedEnds`: `refused`.
   pub done : status ≡ DONE → NoFault i i' o o' × ((n : ReadsWithChain i file text) × SaysWords n.scenario n.chain o o')
   -- nothing failed, the text is a scenario, no chain of its NATs is asked for, and the line that says so was written

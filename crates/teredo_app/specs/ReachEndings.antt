@@ -10,7 +10,7 @@ use Rattle.history.specs.Full.{Full}
 use Rattle.legal.specs.Lab.{lab_of}
 use Rattle.legal.specs.Legal.{Begun}
 use Rattle.td_chain.specs.ChainText.{chain_asked}
-use Rattle.reaching.specs.Kept.{WordsKept}
+use Rattle.theory_reaching.specs.Kept.{WordsKept}
 use Rattle.player.specs.declared.player.PlayFault.{PlayFault}
 use Rattle.sink_lines.specs.Lines.{WritesNothing}
 use Rattle.reach_query.specs.ReachAccount.{reach_account}

@@ -3,7 +3,7 @@ use Rattle.std.specs.Prelude.{◌≡◌, ℕ, List, Option, IfSome, Result, Ok}
 use Rattle.td_outside.specs.Source.{SourceState}
 use Rattle.topology.specs.Chains.{Behind}
 use Rattle.events.specs.Scenario.{Scenario}
-use Rattle.promises.specs.Kept.{IsKeptSoFar}
+use Rattle.theory_promises.specs.Kept.{IsKeptSoFar}
 use Rattle.scenario.specs.declared.scenario_fault.ScenarioFault.{ScenarioFault}
 use Rattle.scenario.specs.Scenario.{scenario_of}
 
@@ -26,7 +26,7 @@ pub record ReadsKept (i : SourceState) (file : List ℕ) (s : Scenario) (chain :
   --   that delivers all that it draws, by one of its courses; the first packet of a native host to a settled client
   --   arrives in each such schedule too, where these two and the host's relay are new to each other. This holds at each
   --   record of the history that was played. It is stated in `Reads.antt`, `Ends.antt`, `Nested.antt`, `Reach.antt`,
-  --   with what that is in `promises/Kept.antt`, and the histories in `player/Endings.antt`.
+  --   with what that is in `theory_promises/Kept.antt`, and the histories in `player/Endings.antt`.
   --   Needs: for verdicts, for what an answer tells and for addresses that stay, that nobody speaks for the client's
   --   server; for neighbours that aren't heard, for nobody; for the rest nothing of strangers. What is said along ways
   --   needs a chain that keeps its rules, and each that is played does.

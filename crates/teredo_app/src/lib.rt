@@ -15,7 +15,7 @@
 //!   the report of the one legal history in which the NATs of a chain are behind others, or one line of why there is none; on
 //!   `reach FILE CHAIN` a word on each two hosts of which one is a client, and the sums, of the one legal history with that
 //!   chain, after which each word keeps its promise, or one line where there is no such chain.
-//! - All that is proved of every history, which `promises` says, is so of each history that was played (`specs/Reads.antt`).
+//! - All that is proved of every history, which `theory_promises` says, is so of each history that was played (`specs/Reads.antt`).
 //! - `lab`, `wire`, `nested`, `reach`, `audit` and `explain` open their file alone, once, and read no more of it than the longest
 //!   text or capture and one byte, and no other command touches the source; `serve` opens the link on its two addresses alone,
 //!   `qualify` at one socket, and only these touch the link and the clock. Each line, and each record of a capture, begins a

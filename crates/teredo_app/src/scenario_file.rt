@@ -5,7 +5,7 @@ ghost use Rattle.td_outside.specs.Moves.{Gains};
 ghost use Rattle.topology.specs.Chains.{Behind};
 ghost use Rattle.events.specs.declared.event.TheConstants.{EVENTS_MAX};
 ghost use Rattle.events.specs.Events.{IsEvent};
-ghost use Rattle.promises.specs.Kept.{IsKeptSoFar};
+ghost use Rattle.theory_promises.specs.Kept.{IsKeptSoFar};
 ghost use Rattle.scenario.specs.Told.{told};
 ghost use Rattle.commands.specs.SourceText.{TakesAtMost};
 ghost use Rattle.teredo_app.specs.Reads.{Reads};
@@ -84,7 +84,7 @@ pub fn lab<S: Source, K: Sink>(alloc: Global, file: &str, src: &mut S, out: &mut
 pub fn wire<S: Source, K: Sink>(alloc: Global, file: &str, src: &mut S, out: &mut K) -> u8
     ensures { WireEnds (S.state src.old) (S.state src.new) (K.state out.old) (K.state out.new) file.now result }
 {
-    wires::scenarios_hold_wires();
+    theory_wires::scenarios_hold_wires();
     match scenario_in(alloc, file, src, out) {
         Ok((s, text)) => {
             let _rules = s.topology.servers();

@@ -12,7 +12,7 @@
 //! # What it does not know
 //!
 //! Whether any of it holds: definitions alone stand here, so that nodes which keep count needn't wait for the proofs. What is
-//! proved of them stands in `storms`.
+//! proved of them stands in `theory_storms`.
 //!
 //! # Parts
 //!
@@ -26,7 +26,7 @@
 //!
 //! # Beside the clauses
 //!
-//! In plain words: what `storms` speaks of. Each entry of the wire has a weight, which is how many deliveries can
+//! In plain words: what `theory_storms` speaks of. Each entry of the wire has a weight, which is how many deliveries can
 //! follow from it, itself counted, and so has each packet that waits; only by the entry and the topology, or eased, by
 //! whom relays trust. Definitions alone stand here, in `Weights.antt`, `Burden.antt`, `Trust.antt`, `Eased.antt` and
 //! `Left.antt`, so no call has a clause: what is proved of them stands below.

@@ -1,7 +1,7 @@
 -- What the computed facts say of a history: which address its latest record sets, and what this hands over. And what is to
 -- be computed for the origin of a packet.
 use Rattle.worked_facts.proofs.Words.{ClientNode, Entry, Ep, Full, HandedIn, HandsToHost, HasOrigin, Ip6, IsHeld, Lab, List, None, Option, PutsFrom, Some, [], are_honest, client_at, client_settings, drop, embedded, false, fields_in, given, journal, length, nat_set_up, outermost, qualification, refl, sent_by, slice_get, sym, take, take-append-drop, true, udp, wire, ℕ, ◌++◌, ◌<◌, ◌∷◌, ◌≡◌, ◌≤◌}
-use Rattle.origins.specs.Origin.{put}
+use Rattle.theory_origins.specs.Origin.{put}
 
 -- ---- addresses
 

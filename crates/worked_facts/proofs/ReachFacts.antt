@@ -3,8 +3,8 @@ use Rattle.worked_facts.proofs.Words.{ClientNode, Event, Full, Lab, List, NatKin
 use Rattle.nat_kinds.specs.declared.kind.NatKind.TheVariants as kind
 use Rattle.events.specs.declared.event.Event.TheVariants as event
 use Rattle.events.specs.declared.target.Target.TheVariants as target
-use Rattle.reaching.specs.declared.word.Reach.TheVariants as word
-use Rattle.reaching.specs.ThroughRelay.{relayed}
+use Rattle.theory_reaching.specs.declared.word.Reach.TheVariants as word
+use Rattle.theory_reaching.specs.ThroughRelay.{relayed}
 
 -- THE LABORATORY
 

@@ -1,7 +1,7 @@
 -- Who made an entry that brought a packet from outside Teredo: a relay, for a native host that had sent it, or a named event.
 use Rattle.worked_facts.proofs.Words.{Entry, Ep, Full, IsFromOutside, IsOfNative, Lab, List, NativeNode, None, Option, PutsFrom, RelayNode, SentByNative, Some, [], ap, drop, length, node_at, refl, relay, subst, sym, take, take-append-drop, wire, ℕ, ◌++◌, ◌<◌, ◌∙◌, ◌∷◌, ◌≡◌, ◌≤◌}
 use Rattle.legal.specs.Emit.{native_packet}
-use Rattle.origins.specs.FromOutside.{put, relayed}
+use Rattle.theory_origins.specs.FromOutside.{put, relayed}
 
 -- WHO SENT IT
 

@@ -4,8 +4,8 @@ use Rattle.worked_facts.proofs.Words.{BringsWithin, Event, Full, List, Scenario,
 use Rattle.nat_kinds.specs.declared.kind.NatKind.TheVariants as kind
 use Rattle.teredo_node.specs.declared.fate.Fate.TheVariants as fate
 use Rattle.events.specs.declared.event.Event.TheVariants as event
-use Rattle.reaching.specs.declared.word.Reach.TheVariants as word
-use Rattle.reaching.specs.ThroughRelay.{relayed}
+use Rattle.theory_reaching.specs.declared.word.Reach.TheVariants as word
+use Rattle.theory_reaching.specs.ThroughRelay.{relayed}
 use Rattle.worked_facts.proofs.NativeNodes.{host_six, a_own, a_own_cone, client_row, host_row, lab, to_a, to_h, after_qualifying, after_cone_qualifying}
 use Rattle.worked_facts.proofs.NativeFacts.{to_port_x, to_port-goes, to_port-no-reply, to_cone_x, to_cone-goes, to_cone-no-reply}
 use Rattle.worked_facts.proofs.ToNativeFacts.{from_cone_x, from_cone-goes}

@@ -61,45 +61,45 @@ pub use Rattle.legal.specs.Lab.{Draws, Lab, flat_lab, lab_on}
 pub use Rattle.legal.specs.Next.{address_at}
 pub use Rattle.legal.specs.Past.{journal, nat_pasts, now, was_delivered}
 pub use Rattle.legal.specs.Settings.{client_settings}
-pub use Rattle.settled.specs.Clients.{asks_at, client_address, nat_behind, port_to, standing}
-pub use Rattle.settled.specs.Settled.{IsSettled}
-pub use Rattle.origins.specs.FromOutside.{HasOutsideOrigin, IsFromOutside, IsOfNative, SentByNative}
-pub use Rattle.origins.specs.Handed.{HandsToHost}
-pub use Rattle.origins.specs.Live.{IsHeld}
-pub use Rattle.origins.specs.Origin.{HandedIn, HasOrigin, PutsFrom, sent_by}
-pub use Rattle.origins.specs.Outside.{HeldIn, IsBringer, ReachesHost, at_once, hands_late, hands_now, late}
-pub use Rattle.origins.specs.Sources.{outermost}
+pub use Rattle.theory_settled.specs.Clients.{asks_at, client_address, nat_behind, port_to, standing}
+pub use Rattle.theory_settled.specs.Settled.{IsSettled}
+pub use Rattle.theory_origins.specs.FromOutside.{HasOutsideOrigin, IsFromOutside, IsOfNative, SentByNative}
+pub use Rattle.theory_origins.specs.Handed.{HandsToHost}
+pub use Rattle.theory_origins.specs.Live.{IsHeld}
+pub use Rattle.theory_origins.specs.Origin.{HandedIn, HasOrigin, PutsFrom, sent_by}
+pub use Rattle.theory_origins.specs.Outside.{HeldIn, IsBringer, ReachesHost, at_once, hands_late, hands_now, late}
+pub use Rattle.theory_origins.specs.Sources.{outermost}
 pub use Rattle.weights.specs.Burden.{burden, burden_most, undelivered_items, waits}
 pub use Rattle.weights.specs.Eased.{eased_burden}
 unfoldable pub use Rattle.weights.specs.Eased.{weight_with}
 unfoldable pub use Rattle.weights.specs.Trust.{host_relay, is_trusted_for, relay_trusts}
 unfoldable pub use Rattle.weights.specs.Weights.{datagram_weight}
-pub use Rattle.verdicts.specs.Right.{IsRight}
-pub use Rattle.verdicts.specs.Undisturbed.{began_seen, has_sent, was_answered, was_lost, was_shut}
-pub use Rattle.ways.specs.RightAlong.{IsRightAlong}
-pub use Rattle.ways.specs.UndisturbedAlong.{passed_known, was_restarted, was_shut_along}
-pub use Rattle.ways.specs.Ways.{has_symmetric, is_all_cone, nats_of, outer_nats_of}
-pub use Rattle.first_packets.proofs.Brought.{within_longer}
-pub use Rattle.first_packets.specs.FirstPacket.{GetsThrough, GoesBetween, HasArrived, HostHandsIn}
-pub use Rattle.first_packets.specs.MayMeet.{known_by}
-pub use Rattle.first_packets.specs.Schedules.{AreFresh, DeliversFresh, HasNoFault, IsComplete, IsWithin, SomeIs, is_fault}
-pub use Rattle.first_natives.specs.FromNative.{GetsFromNative, HasArrivedLate, IsFirstFromNative}
-pub use Rattle.first_natives.specs.MayMeetThroughRelay.{must_ask}
-pub use Rattle.first_natives.specs.NextFromNative.{GivesToHost}
-pub use Rattle.first_natives.specs.Relayed.{AreNewToEachOther}
-pub use Rattle.first_natives.specs.ToNative.{BringsToNative, GetsToNative, HasAnswered, HasComeToNative, IsFirstToNative, ReachesNative, most_to_native}
-unfoldable pub use Rattle.reaching.specs.BetweenClients.{two_clients}
-unfoldable pub use Rattle.reaching.specs.Conditions.{is_led_to, is_settled}
-unfoldable pub use Rattle.reaching.specs.Finer.{finer_of}
-unfoldable pub use Rattle.reaching.specs.FinerClients.{finer_two}
-pub use Rattle.reaching.specs.FinerRelayed.{finer_back_row}
-unfoldable pub use Rattle.reaching.specs.FinerRelayed.{finer_relayed}
-pub use Rattle.reaching.specs.FinerWords.{Finer, away, barred, off, one_nat, within}
-pub use Rattle.reaching.specs.Promises.{BringsWithin, IsNoReply, IsOwnTest, IsSentNext, IsShut}
-unfoldable pub use Rattle.reaching.specs.Reach.{reach_of}
-pub use Rattle.reaching.specs.ReachLines.{reach_lines}
-unfoldable pub use Rattle.reaching.specs.Speaks.{is_heard_once_sent, is_of_server, speaks_to, speaks_to_both}
-pub use Rattle.reaching.specs.declared.word.Reach.{Reach}
+pub use Rattle.theory_verdicts.specs.Right.{IsRight}
+pub use Rattle.theory_verdicts.specs.Undisturbed.{began_seen, has_sent, was_answered, was_lost, was_shut}
+pub use Rattle.theory_ways.specs.RightAlong.{IsRightAlong}
+pub use Rattle.theory_ways.specs.UndisturbedAlong.{passed_known, was_restarted, was_shut_along}
+pub use Rattle.theory_ways.specs.Ways.{has_symmetric, is_all_cone, nats_of, outer_nats_of}
+pub use Rattle.theory_first_packets.proofs.Brought.{within_longer}
+pub use Rattle.theory_first_packets.specs.FirstPacket.{GetsThrough, GoesBetween, HasArrived, HostHandsIn}
+pub use Rattle.theory_first_packets.specs.MayMeet.{known_by}
+pub use Rattle.theory_first_packets.specs.Schedules.{AreFresh, DeliversFresh, HasNoFault, IsComplete, IsWithin, SomeIs, is_fault}
+pub use Rattle.theory_first_natives.specs.FromNative.{GetsFromNative, HasArrivedLate, IsFirstFromNative}
+pub use Rattle.theory_first_natives.specs.MayMeetThroughRelay.{must_ask}
+pub use Rattle.theory_first_natives.specs.NextFromNative.{GivesToHost}
+pub use Rattle.theory_first_natives.specs.Relayed.{AreNewToEachOther}
+pub use Rattle.theory_first_natives.specs.ToNative.{BringsToNative, GetsToNative, HasAnswered, HasComeToNative, IsFirstToNative, ReachesNative, most_to_native}
+unfoldable pub use Rattle.theory_reaching.specs.BetweenClients.{two_clients}
+unfoldable pub use Rattle.theory_reaching.specs.Conditions.{is_led_to, is_settled}
+unfoldable pub use Rattle.theory_reaching.specs.Finer.{finer_of}
+unfoldable pub use Rattle.theory_reaching.specs.FinerClients.{finer_two}
+pub use Rattle.theory_reaching.specs.FinerRelayed.{finer_back_row}
+unfoldable pub use Rattle.theory_reaching.specs.FinerRelayed.{finer_relayed}
+pub use Rattle.theory_reaching.specs.FinerWords.{Finer, away, barred, off, one_nat, within}
+pub use Rattle.theory_reaching.specs.Promises.{BringsWithin, IsNoReply, IsOwnTest, IsSentNext, IsShut}
+unfoldable pub use Rattle.theory_reaching.specs.Reach.{reach_of}
+pub use Rattle.theory_reaching.specs.ReachLines.{reach_lines}
+unfoldable pub use Rattle.theory_reaching.specs.Speaks.{is_heard_once_sent, is_of_server, speaks_to, speaks_to_both}
+pub use Rattle.theory_reaching.specs.declared.word.Reach.{Reach}
 pub use Rattle.worked_scenarios.proofs.ConeReports.{cone-sends}
 pub use Rattle.worked_scenarios.proofs.MeetingReports.{meeting}
 unfoldable pub use Rattle.worked_scenarios.proofs.Playing.{playing}

@@ -72,7 +72,7 @@ pub use Rattle.legal.specs.Routes.{EntersBy}
 pub use Rattle.legal.specs.declared.left.TheConstants.{LEFT_MAX}
 pub use Rattle.weights.specs.Left.{left, left_of_event}
 pub use Rattle.weights.specs.Weights.{entry_weight}
-pub use Rattle.storms.proofs.LawProofs.{falls as storms_falls}
+pub use Rattle.theory_storms.proofs.LawProofs.{falls as storms_falls}
 pub use Rattle.lab_nodes.proofs.LawProofs.{due_as_in_the_past, rows_keep_rules, waits_as_in_the_past}
 pub use Rattle.lab_nodes.specs.Answers.{AnswersCall, AnswersFor, MayTakeMemory, Wants}
 pub use Rattle.lab_nodes.specs.Call.{dst_lent, entry_in, input_lent}

@@ -1,5 +1,0 @@
-use Rattle.answers.proofs.LawProofs.{answers_are_taken}
-use Rattle.answers.proofs.laws.answers_are_taken.Goals as goal
-
-pub returns : goal.returns
-returns c = answers_are_taken

@@ -1,5 +1,0 @@
-use Rattle.answers.proofs.LawProofs.{heard_answers_tell}
-use Rattle.answers.proofs.laws.heard_answers_tell.Goals as goal
-
-pub returns : goal.returns
-returns c = heard_answers_tell

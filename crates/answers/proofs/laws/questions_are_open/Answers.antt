@@ -1,5 +1,0 @@
-use Rattle.answers.proofs.LawProofs.{questions_are_open}
-use Rattle.answers.proofs.laws.questions_are_open.Goals as goal
-
-pub returns : goal.returns
-returns c = questions_are_open

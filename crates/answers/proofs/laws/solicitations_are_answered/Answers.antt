@@ -1,5 +1,0 @@
-use Rattle.answers.proofs.LawProofs.{solicitations_are_answered}
-use Rattle.answers.proofs.laws.solicitations_are_answered.Goals as goal
-
-pub returns : goal.returns
-returns c = solicitations_are_answered

@@ -1,5 +1,0 @@
-use Rattle.first_natives.proofs.LawProofs.{first_from_native_arrives}
-use Rattle.first_natives.proofs.laws.first_from_native_arrives.Goals as goal
-
-pub returns : goal.returns
-returns c = first_from_native_arrives

@@ -1,5 +1,0 @@
-use Rattle.first_natives.proofs.LawProofs.{next_to_native_arrives}
-use Rattle.first_natives.proofs.laws.next_to_native_arrives.Goals as goal
-
-pub returns : goal.returns
-returns c = next_to_native_arrives

@@ -1,5 +1,0 @@
-use Rattle.first_packets.proofs.LawProofs.{histories_carry_first_packets}
-use Rattle.first_packets.proofs.laws.histories_carry_first_packets.Goals as goal
-
-pub returns : goal.returns
-returns c = histories_carry_first_packets

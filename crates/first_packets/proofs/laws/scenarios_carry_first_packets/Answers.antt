@@ -1,5 +1,0 @@
-use Rattle.first_packets.proofs.LawProofs.{scenarios_carry_first_packets}
-use Rattle.first_packets.proofs.laws.scenarios_carry_first_packets.Goals as goal
-
-pub returns : goal.returns
-returns c = scenarios_carry_first_packets

@@ -1,5 +1,0 @@
-use Rattle.first_packets.proofs.LawProofs.{strangers_may_meet}
-use Rattle.first_packets.proofs.laws.strangers_may_meet.Goals as goal
-
-pub returns : goal.returns
-returns c = strangers_may_meet

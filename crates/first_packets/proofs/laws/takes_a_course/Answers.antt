@@ -1,5 +1,0 @@
-use Rattle.first_packets.proofs.LawProofs.{takes_a_course}
-use Rattle.first_packets.proofs.laws.takes_a_course.Goals as goal
-
-pub returns : goal.returns
-returns c = takes_a_course

@@ -1,5 +1,0 @@
-use Rattle.origins.proofs.LawProofs.{comes_from_clients}
-use Rattle.origins.proofs.laws.comes_from_clients.Goals as goal
-
-pub returns : goal.returns
-returns c = comes_from_clients

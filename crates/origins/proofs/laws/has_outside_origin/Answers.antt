@@ -1,5 +1,0 @@
-use Rattle.origins.proofs.LawProofs.{has_outside_origin}
-use Rattle.origins.proofs.laws.has_outside_origin.Goals as goal
-
-pub returns : goal.returns
-returns c = has_outside_origin

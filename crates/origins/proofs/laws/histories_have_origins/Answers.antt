@@ -1,5 +1,0 @@
-use Rattle.origins.proofs.LawProofs.{histories_have_origins}
-use Rattle.origins.proofs.laws.histories_have_origins.Goals as goal
-
-pub returns : goal.returns
-returns c = histories_have_origins

@@ -1,5 +1,0 @@
-use Rattle.origins.proofs.LawProofs.{honest_for_scenarios}
-use Rattle.origins.proofs.laws.honest_for_scenarios.Goals as goal
-
-pub returns : goal.returns
-returns c = honest_for_scenarios

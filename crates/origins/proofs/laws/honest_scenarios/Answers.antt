@@ -1,5 +1,0 @@
-use Rattle.origins.proofs.LawProofs.{honest_scenarios}
-use Rattle.origins.proofs.laws.honest_scenarios.Goals as goal
-
-pub returns : goal.returns
-returns c = honest_scenarios

@@ -1,5 +1,0 @@
-use Rattle.origins.proofs.LawProofs.{is_brought_by}
-use Rattle.origins.proofs.laws.is_brought_by.Goals as goal
-
-pub returns : goal.returns
-returns c = is_brought_by

@@ -1,5 +1,0 @@
-use Rattle.origins.proofs.LawProofs.{is_held}
-use Rattle.origins.proofs.laws.is_held.Goals as goal
-
-pub returns : goal.returns
-returns c = is_held

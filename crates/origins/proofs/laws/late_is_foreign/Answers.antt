@@ -1,5 +1,0 @@
-use Rattle.origins.proofs.LawProofs.{late_is_foreign}
-use Rattle.origins.proofs.laws.late_is_foreign.Goals as goal
-
-pub returns : goal.returns
-returns c = late_is_foreign

@@ -1,5 +1,0 @@
-use Rattle.origins.proofs.LawProofs.{own_sources}
-use Rattle.origins.proofs.laws.own_sources.Goals as goal
-
-pub returns : goal.returns
-returns c = own_sources

@@ -1,5 +1,0 @@
-use Rattle.origins.proofs.LawProofs.{own_voices}
-use Rattle.origins.proofs.laws.own_voices.Goals as goal
-
-pub returns : goal.returns
-returns c = own_voices

@@ -1,5 +1,0 @@
-use Rattle.origins.proofs.LawProofs.{scenarios_have_origins}
-use Rattle.origins.proofs.laws.scenarios_have_origins.Goals as goal
-
-pub returns : goal.returns
-returns c = scenarios_have_origins

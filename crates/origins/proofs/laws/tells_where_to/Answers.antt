@@ -1,5 +1,0 @@
-use Rattle.origins.proofs.LawProofs.{tells_where_to}
-use Rattle.origins.proofs.laws.tells_where_to.Goals as goal
-
-pub returns : goal.returns
-returns c = tells_where_to

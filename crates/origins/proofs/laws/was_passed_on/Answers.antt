@@ -1,5 +1,0 @@
-use Rattle.origins.proofs.LawProofs.{was_passed_on}
-use Rattle.origins.proofs.laws.was_passed_on.Goals as goal
-
-pub returns : goal.returns
-returns c = was_passed_on

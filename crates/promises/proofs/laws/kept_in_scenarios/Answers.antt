@@ -1,5 +1,0 @@
-use Rattle.promises.proofs.LawProofs.{kept_in_scenarios}
-use Rattle.promises.proofs.laws.kept_in_scenarios.Goals as goal
-
-pub returns : goal.returns
-returns c = kept_in_scenarios

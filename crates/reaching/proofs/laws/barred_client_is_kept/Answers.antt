@@ -1,5 +1,0 @@
-use Rattle.reaching.proofs.LawProofs.{barred_client_is_kept}
-use Rattle.reaching.proofs.laws.barred_client_is_kept.Goals as goal
-
-pub returns : goal.returns
-returns c = barred_client_is_kept

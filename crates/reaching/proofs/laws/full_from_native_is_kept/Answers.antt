@@ -1,5 +1,0 @@
-use Rattle.reaching.proofs.LawProofs.{full_from_native_is_kept}
-use Rattle.reaching.proofs.laws.full_from_native_is_kept.Goals as goal
-
-pub returns : goal.returns
-returns c = full_from_native_is_kept

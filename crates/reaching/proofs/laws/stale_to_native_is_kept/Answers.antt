@@ -1,5 +1,0 @@
-use Rattle.reaching.proofs.LawProofs.{stale_to_native_is_kept}
-use Rattle.reaching.proofs.laws.stale_to_native_is_kept.Goals as goal
-
-pub returns : goal.returns
-returns c = stale_to_native_is_kept

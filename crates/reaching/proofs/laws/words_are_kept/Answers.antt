@@ -1,5 +1,0 @@
-use Rattle.reaching.proofs.LawProofs.{words_are_kept}
-use Rattle.reaching.proofs.laws.words_are_kept.Goals as goal
-
-pub returns : goal.returns
-returns c = words_are_kept

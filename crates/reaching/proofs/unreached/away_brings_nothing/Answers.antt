@@ -1,5 +1,0 @@
-use Rattle.reaching.proofs.LawProofs.{away_brings_nothing}
-use Rattle.reaching.proofs.unreached.away_brings_nothing.Goals as goal
-
-pub returns : goal.returns
-returns c = away_brings_nothing

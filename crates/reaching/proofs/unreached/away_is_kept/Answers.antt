@@ -1,5 +1,0 @@
-use Rattle.reaching.proofs.LawProofs.{away_is_kept}
-use Rattle.reaching.proofs.unreached.away_is_kept.Goals as goal
-
-pub returns : goal.returns
-returns c = away_is_kept

@@ -1,5 +1,0 @@
-use Rattle.reaching.proofs.LawProofs.{off_is_kept}
-use Rattle.reaching.proofs.unreached.off_is_kept.Goals as goal
-
-pub returns : goal.returns
-returns c = off_is_kept

@@ -1,5 +1,0 @@
-use Rattle.reaching.proofs.LawProofs.{one_nat_is_kept}
-use Rattle.reaching.proofs.unreached.one_nat_is_kept.Goals as goal
-
-pub returns : goal.returns
-returns c = one_nat_is_kept

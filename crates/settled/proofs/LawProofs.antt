@@ -1,3 +1,0 @@
--- The laws of this crate, each under the name of its call: crates above cite them from here.
-pub use Rattle.settled.proofs.OwnAddress.{each_address_is_own as address_is_own}
-pub use Rattle.settled.proofs.ItsNodes.{clients_are_there as client_is_there}

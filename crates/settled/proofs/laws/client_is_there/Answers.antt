@@ -1,5 +1,0 @@
-use Rattle.settled.proofs.LawProofs.{client_is_there}
-use Rattle.settled.proofs.laws.client_is_there.Goals as goal
-
-pub returns : goal.returns
-returns c = client_is_there

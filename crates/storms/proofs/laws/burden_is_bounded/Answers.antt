@@ -1,5 +1,0 @@
-use Rattle.storms.proofs.LawProofs.{burden_is_bounded}
-use Rattle.storms.proofs.laws.burden_is_bounded.Goals as goal
-
-pub returns : goal.returns
-returns c = burden_is_bounded

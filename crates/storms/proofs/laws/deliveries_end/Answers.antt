@@ -1,5 +1,0 @@
-use Rattle.storms.proofs.LawProofs.{deliveries_end}
-use Rattle.storms.proofs.laws.deliveries_end.Goals as goal
-
-pub returns : goal.returns
-returns c = deliveries_end

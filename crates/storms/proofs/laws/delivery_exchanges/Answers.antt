@@ -1,5 +1,0 @@
-use Rattle.storms.proofs.LawProofs.{delivery_exchanges}
-use Rattle.storms.proofs.laws.delivery_exchanges.Goals as goal
-
-pub returns : goal.returns
-returns c = delivery_exchanges

@@ -1,5 +1,0 @@
-use Rattle.storms.proofs.LawProofs.{each_eases}
-use Rattle.storms.proofs.laws.each_eases.Goals as goal
-
-pub returns : goal.returns
-returns c = each_eases

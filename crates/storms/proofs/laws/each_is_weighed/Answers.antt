@@ -1,5 +1,0 @@
-use Rattle.storms.proofs.LawProofs.{each_is_weighed}
-use Rattle.storms.proofs.laws.each_is_weighed.Goals as goal
-
-pub returns : goal.returns
-returns c = each_is_weighed

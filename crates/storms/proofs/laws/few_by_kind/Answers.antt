@@ -1,5 +1,0 @@
-use Rattle.storms.proofs.LawProofs.{few_by_kind}
-use Rattle.storms.proofs.laws.few_by_kind.Goals as goal
-
-pub returns : goal.returns
-returns c = few_by_kind

@@ -1,5 +1,0 @@
-use Rattle.storms.proofs.LawProofs.{few_follow}
-use Rattle.storms.proofs.laws.few_follow.Goals as goal
-
-pub returns : goal.returns
-returns c = few_follow

@@ -1,5 +1,0 @@
-use Rattle.storms.proofs.LawProofs.{few_wait}
-use Rattle.storms.proofs.laws.few_wait.Goals as goal
-
-pub returns : goal.returns
-returns c = few_wait

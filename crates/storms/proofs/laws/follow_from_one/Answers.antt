@@ -1,5 +1,0 @@
-use Rattle.storms.proofs.LawProofs.{follow_from_one}
-use Rattle.storms.proofs.laws.follow_from_one.Goals as goal
-
-pub returns : goal.returns
-returns c = follow_from_one

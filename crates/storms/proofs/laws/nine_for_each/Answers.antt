@@ -1,5 +1,0 @@
-use Rattle.storms.proofs.LawProofs.{nine_for_each}
-use Rattle.storms.proofs.laws.nine_for_each.Goals as goal
-
-pub returns : goal.returns
-returns c = nine_for_each

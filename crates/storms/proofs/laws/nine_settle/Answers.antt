@@ -1,5 +1,0 @@
-use Rattle.storms.proofs.LawProofs.{nine_settle}
-use Rattle.storms.proofs.laws.nine_settle.Goals as goal
-
-pub returns : goal.returns
-returns c = nine_settle

@@ -1,5 +1,0 @@
-use Rattle.storms.proofs.LawProofs.{settle_by_kind}
-use Rattle.storms.proofs.laws.settle_by_kind.Goals as goal
-
-pub returns : goal.returns
-returns c = settle_by_kind

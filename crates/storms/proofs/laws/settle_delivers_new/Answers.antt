@@ -1,5 +1,0 @@
-use Rattle.storms.proofs.LawProofs.{settle_delivers_new}
-use Rattle.storms.proofs.laws.settle_delivers_new.Goals as goal
-
-pub returns : goal.returns
-returns c = settle_delivers_new

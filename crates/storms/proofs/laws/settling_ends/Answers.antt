@@ -1,5 +1,0 @@
-use Rattle.storms.proofs.LawProofs.{settling_ends}
-use Rattle.storms.proofs.laws.settling_ends.Goals as goal
-
-pub returns : goal.returns
-returns c = settling_ends

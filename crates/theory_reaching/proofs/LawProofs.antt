@@ -1,0 +1,50 @@
+-- The laws of this crate, each under the name of its call: crates above cite them from here.
+use Rattle.theory_reaching.proofs.Words.{GoneElsewhere, MovedBetweenClients, MovedTests, MovedToNatives, WordsAreKept}
+use Rattle.theory_reaching.proofs.EachWord.{words_kept}
+use Rattle.theory_reaching.proofs.MovedTest.{of_tests}
+use Rattle.theory_reaching.proofs.MovedWords.{between_clients, to_natives, to_nobody}
+pub use Rattle.theory_reaching.proofs.AwayForAll.{away_brings_nothing}
+pub use Rattle.theory_reaching.proofs.BarredBackWord.{barred_is_kept as barred_from_native_is_kept}
+pub use Rattle.theory_reaching.proofs.BarredClients.{barred_is_kept as barred_client_is_kept, barred_sender_is_silent}
+pub use Rattle.theory_reaching.proofs.BarredOut.{barred_is_kept as barred_to_native_is_kept}
+pub use Rattle.theory_reaching.proofs.FullBack.{full_is_kept as full_from_native_is_kept}
+pub use Rattle.theory_reaching.proofs.FullClients.{full_is_kept as full_client_is_kept}
+pub use Rattle.theory_reaching.proofs.FullOut.{full_is_kept as full_to_native_is_kept}
+pub use Rattle.theory_reaching.proofs.OffAndAway.{away_is_kept, off_is_kept}
+pub use Rattle.theory_reaching.proofs.OffHost.{off_makes_nothing}
+pub use Rattle.theory_reaching.proofs.OneNat.{one_nat_is_kept}
+pub use Rattle.theory_reaching.proofs.StaleClients.{stale_is_kept as stale_client_is_kept}
+pub use Rattle.theory_reaching.proofs.StaleNatives.{stale_is_kept as stale_from_native_is_kept}
+pub use Rattle.theory_reaching.proofs.StaleOut.{stale_is_kept as stale_to_native_is_kept}
+pub use Rattle.theory_reaching.proofs.ToNativesInTime.{nine_is_kept as within_nine_is_kept, six_is_kept as within_six_is_kept}
+pub use Rattle.theory_reaching.proofs.WithinBounds.{five_is_kept as within_five_is_kept, four_is_kept as within_four_is_kept}
+pub use Rattle.theory_reaching.proofs.WithinOne.{one_is_kept as within_one_is_kept}
+pub use Rattle.theory_reaching.proofs.WithinTwo.{two_is_kept as within_two_is_kept}
+
+pub moved_straight_is_kept : MovedBetweenClients × MovedToNatives × GoneElsewhere × MovedTests
+moved_straight_is_kept = (between_clients, to_natives, to_nobody, of_tests)
+
+pub words_are_kept : WordsAreKept
+words_are_kept lab H is chained grown = words_kept lab H (record {
+  off = off_is_kept lab H is chained;
+  off_nothing = off_makes_nothing lab H;
+  away_nothing = away_brings_nothing lab H is;
+  barred_silent = barred_sender_is_silent lab H;
+  away = away_is_kept lab H is chained;
+  one_nat = one_nat_is_kept lab H is chained;
+  full = full_client_is_kept lab H is chained;
+  full_to_native = full_to_native_is_kept lab H is chained;
+  full_from_native = full_from_native_is_kept lab H is chained;
+  stale = stale_client_is_kept lab H is chained;
+  stale_to_native = stale_to_native_is_kept lab H is chained;
+  stale_from_native = stale_from_native_is_kept lab H is chained;
+  barred = barred_client_is_kept lab H is chained;
+  barred_to_native = barred_to_native_is_kept lab H is chained;
+  barred_from_native = barred_from_native_is_kept lab H is chained;
+  within_one = within_one_is_kept lab H is chained;
+  within_two = within_two_is_kept lab H is chained;
+  within_four = within_four_is_kept lab H is chained;
+  within_five = within_five_is_kept lab H is chained;
+  within_six = within_six_is_kept lab H is chained;
+  within_nine = within_nine_is_kept lab H is chained;
+})

@@ -1,0 +1,5 @@
+use Rattle.theory_reaching.proofs.LawProofs.{barred_from_native_is_kept}
+use Rattle.theory_reaching.proofs.laws.barred_from_native_is_kept.Goals as goal
+
+pub returns : goal.returns
+returns c = barred_from_native_is_kept

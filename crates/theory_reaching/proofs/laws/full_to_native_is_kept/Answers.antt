@@ -1,0 +1,5 @@
+use Rattle.theory_reaching.proofs.LawProofs.{full_to_native_is_kept}
+use Rattle.theory_reaching.proofs.laws.full_to_native_is_kept.Goals as goal
+
+pub returns : goal.returns
+returns c = full_to_native_is_kept

@@ -1,0 +1,84 @@
+//! From a client to another one: what the table of words asks, and its answer.
+ghost use Rattle.std.specs.Prelude.{◌≡◌};
+ghost use Rattle.theory_reaching.specs.BetweenClients.{between_clients_row};
+
+use crate::word::Reach;
+
+/// What the lines ask of a client and another one, in their order.
+#[derive(Clone, Copy, Debug)]
+pub struct TwoClients {
+    /// The sender is qualified.
+    pub on: bool,
+    /// The receiver is.
+    pub there: bool,
+    /// Both are settled along their ways.
+    pub settled: bool,
+    /// Their outermost NATs are one.
+    pub one_nat: bool,
+    /// The receiver has room for the sender.
+    pub heard: bool,
+    /// The receiver is fresh at the sender.
+    pub fresh: bool,
+    /// What comes from the sender's endpoint to the receiver's is let in to the receiver.
+    pub let_in: bool,
+    /// The receiver's address has the cone bit.
+    pub to_cone: bool,
+    /// The sender is barred for the receiver.
+    pub barred: bool,
+    /// The sender has room for the receiver.
+    pub room: bool,
+    /// The receiver is barred for the sender, whose bubbles don't come straight to it: none goes there, or none is let in.
+    pub barred_there: bool,
+    /// Packets wait at one of them for the other, or the receiver is barred for the sender.
+    pub known: bool,
+    /// The sender's address has the cone bit.
+    pub from_cone: bool,
+}
+
+impl TwoClients {
+    /// The word of the first line whose condition holds.
+    pub fn word(self) -> Reach
+        /// What is asked of two clients gives the word of the first line whose condition holds; so does what is asked
+        /// of a client, a native host and its relay, for packets to the native and for packets from it.
+        /// Leaves open: who answers what is asked; `world` does.
+        ensures { result ≡ between_clients_row self }
+    {
+        if !self.on {
+            return Reach::Off;
+        }
+        if !self.there {
+            return Reach::Away;
+        }
+        if !self.settled {
+            return Reach::Lost;
+        }
+        if self.one_nat {
+            return Reach::OneNat;
+        }
+        if !self.heard {
+            return Reach::Full;
+        }
+        if self.fresh && !self.let_in {
+            return Reach::Stale;
+        }
+        if self.fresh || self.to_cone {
+            return Reach::Within1;
+        }
+        if self.barred {
+            return Reach::Barred;
+        }
+        if !self.room {
+            return Reach::Full;
+        }
+        if self.barred_there {
+            return Reach::Barred;
+        }
+        if self.known {
+            return Reach::Known;
+        }
+        if self.from_cone {
+            return Reach::Within4;
+        }
+        Reach::Within5
+    }
+}

@@ -1,0 +1,5 @@
+use Rattle.theory_storms.proofs.LawProofs.{histories_have_nine}
+use Rattle.theory_storms.proofs.laws.histories_have_nine.Goals as goal
+
+pub returns : goal.returns
+returns c = histories_have_nine

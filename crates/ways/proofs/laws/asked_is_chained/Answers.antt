@@ -1,5 +1,0 @@
-use Rattle.ways.proofs.LawProofs.{asked_is_chained}
-use Rattle.ways.proofs.laws.asked_is_chained.Goals as goal
-
-pub returns : goal.returns
-returns c = asked_is_chained

@@ -1,5 +1,0 @@
-use Rattle.ways.proofs.LawProofs.{flat_is_chained}
-use Rattle.ways.proofs.laws.flat_is_chained.Goals as goal
-
-pub returns : goal.returns
-returns c = flat_is_chained

@@ -1,5 +1,0 @@
-use Rattle.wires.proofs.LawProofs.{wire_is_clean}
-use Rattle.wires.proofs.laws.wire_is_clean.Goals as goal
-
-pub returns : goal.returns
-returns c = wire_is_clean
