@@ -3,5 +3,5 @@ pub mod Attempts
 pub mod Entries
 pub mod Unlisted
 pub mod Turned
-pub mod LiveRan
+pub mod Ran
 pub mod Sessions
