@@ -27,6 +27,13 @@ def imports(text):
         yield crate, file, [name.split(' as ')[0].strip() for name in names.split(',') if name.strip()]
 
 
+def public_files(files, root, folder):
+    """The files that a file makes public, by their paths: what stands in a folder is named by the file of the folder's name."""
+    for name in re.findall(r'^pub mod (\w+)$', files.get(root, ''), re.M):
+        yield folder + name
+        yield from public_files(files, folder + name, f'{folder}{name}.')
+
+
 class Crates:
     """The proofs of all crates: what each file says, and what of it is public."""
 
@@ -41,7 +48,7 @@ class Crates:
                 else:
                     self._tell(place[1], path, read(path))
         for name, files in self.files.items():
-            self.public[name] = set(re.findall(r'^pub mod (\w+)$', files.get('Lib', ''), re.M))
+            self.public[name] = set(public_files(files, 'Lib', ''))
             self.laws[name] = {(file, law) for crate, file, laws in imports(files.get(LAWS, '')) if crate == name for law in laws
                                if re.search(rf'^pub use Rattle\.{name}\.proofs\.{re.escape(file)}\.\{{[^}}]*\b{re.escape(law)}\b', files[LAWS], re.M)}
 

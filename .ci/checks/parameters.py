@@ -93,7 +93,7 @@ def is_more(line, indent):
 def faults(paths, read):
     """Each lemma that has too many."""
     for path in paths:
-        crate = re.fullmatch(r'crates/(\w+)/proofs/\w+\.antt', path)
+        crate = re.fullmatch(r'crates/(\w+)/proofs/(?:[a-z_]+/)?[A-Z]\w*\.antt', path)
         if crate:
             most = NOT_YET.get(crate[1], PARAMETERS_MAX)
             for name, count in lemmas(read(path)):

@@ -113,10 +113,10 @@ pub use Rattle.legal.specs.Past.{armed, armed_after, going, has_more, has_sends,
 pub use Rattle.legal.specs.Settings.{client_settings, server_settings}
 pub use Rattle.theory_settled.specs.Clients.{asks_at, client_address, nat_behind}
 pub use Rattle.theory_settled.specs.Settled.{IsSettled}
-pub use Rattle.theory_first_packets.proofs.Given.{entry_given, given_here, waits_for_it}
-pub use Rattle.theory_first_packets.proofs.Known.{not_full, not_spent, untried}
 pub use Rattle.theory_first_packets.proofs.LawProofs.{full_receiver_hears_nothing, full_sender_drops}
-pub use Rattle.theory_first_packets.proofs.Lists.{same_number}
+pub use Rattle.theory_first_packets.proofs.tables.GivenPacket.{entry_given, given_here, waits_for_it}
+pub use Rattle.theory_first_packets.proofs.tables.Known.{not_full, not_spent, untried}
+pub use Rattle.theory_first_packets.proofs.tables.Lists.{same_number}
 pub use Rattle.theory_first_packets.specs.FirstPacket.{GoesBetween, HasArrived, HostHandsIn}
 pub use Rattle.theory_first_packets.specs.NoRoom.{IsDropped, IsTurnedAway, IsUnheard}
 pub use Rattle.theory_first_packets.specs.Schedules.{AreFresh, HasNoFault, IsComplete, is_fault}

@@ -121,8 +121,8 @@ pub use Rattle.theory_verdicts.proofs.Journals.{client_does}
 pub use Rattle.theory_verdicts.proofs.Phases.{address_then}
 pub use Rattle.theory_verdicts.specs.Stays.{AddressStays}
 pub use Rattle.theory_verdicts.specs.Undisturbed.{starts}
-pub use Rattle.theory_ways.proofs.Histories.{honest_before, kept_open_before, not_started, undisturbed_before}
 pub use Rattle.theory_ways.proofs.LawProofs.{addresses_stay_along, replies_are_let_in, verdicts_are_right_along}
+pub use Rattle.theory_ways.proofs.phases.Histories.{honest_before, kept_open_before, not_started, undisturbed_before}
 pub use Rattle.theory_ways.specs.Replies.{IsShutAlong, LetsReplyIn}
 pub use Rattle.theory_ways.specs.RightAlong.{IsRightAlong}
 pub use Rattle.theory_ways.specs.SettledAlong.{IsSettledAlong}

@@ -1,13 +1,13 @@
 -- A client, a native host and its relay that are new to each other may meet, and a first packet comes as any other does: it is the
 -- only one that comes, late.
 use Rattle.theory_first_natives.proofs.Words.{AreNewToEachOther, Bool, ClientNode, FirstFromNativeArrivesAlong, Full, Ip6, Lab, List, MayAskClient, MayMeetThroughRelay, MayTest, NativeNode, OfEachSchedule, PEERS_MAX, Peer, RelayNode, ap, arith, earlier, false, false≢true, has_cone, is_barred, is_some, is_trusted_at, journal, known_by, known_by_relay, length, listed, mentions, most_deliveries, most_from_native, must_ask, no_peer, not, now, refl, relay_mentions, sound_first, subst, sym, true, trusts_client, unlisted, ℕ, ◌&&◌, ◌+◌, ◌<◌, ◌∙◌, ◌∷◌, ◌≡◌, ◌≤◌}
-use Rattle.theory_first_natives.proofs.ClientHere.{not_fresh, nobody_barred, nobody_holds}
-use Rattle.theory_first_natives.proofs.OneMoreListed.{room_where}
-use Rattle.theory_first_natives.proofs.Trio.{Trio}
-use Rattle.theory_first_natives.proofs.TrioStages.{is_strange}
-use Rattle.theory_first_natives.proofs.TrioBoards as boards
-use Rattle.theory_first_natives.proofs.TrioBoards.{TrioRun, IsBound, Board}
-use Rattle.theory_first_natives.proofs.TrioStart.{bound_is, carried}
+use Rattle.theory_first_natives.proofs.tables.ClientHere.{not_fresh, nobody_barred, nobody_holds}
+use Rattle.theory_first_natives.proofs.tables.OneMoreListed.{room_where}
+use Rattle.theory_first_natives.proofs.from_native.Trio.{Trio}
+use Rattle.theory_first_natives.proofs.from_native.TrioStages.{is_strange}
+use Rattle.theory_first_natives.proofs.from_native.TrioBoards as boards
+use Rattle.theory_first_natives.proofs.from_native.TrioBoards.{TrioRun, IsBound, Board}
+use Rattle.theory_first_natives.proofs.from_native.TrioStart.{bound_is, carried}
 
 -- THE PREMISE
 

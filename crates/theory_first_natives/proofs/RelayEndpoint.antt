@@ -1,6 +1,6 @@
 -- A relay beside a client that is settled along its way: it may reach the client, and its endpoint is nobody else's.
 use Rattle.theory_first_natives.proofs.Words.{Ip4, IsElsewhere, IsEnd, IsOnWay, IsRelayNode, IsTopology, Lab, MayTell, Node, RelayNode, Some, Strict, addresses_are_apart, and_from, and_left, ap, arith, each_node, each_so, embedded, false, false_from_ne_true, false≢true, has_address, is_global, is_reachable, is_teredo, is_usable, nat, nat_has, nat_of, nat_tests, nats_of, node_at, not, outermost, primary_has, refl, relay, same_ep, same_ip, same_ip-self, same_ip-true, secondary_has, server, server_in, subst, sym, true, two_kinds, usable_at, ℕ, ◌==◌, ◌∙◌, ◌≡◌, ◌≢◌}
-use Rattle.theory_first_packets.proofs.Sides.{Side}
+use Rattle.theory_first_packets.proofs.passing.Sides.{Side}
 use Rattle.theory_first_natives.proofs.Apart.{is_relay_node}
 
 -- node k is the relay r, and the client is at the end of its way

@@ -1,6 +1,6 @@
 -- First packets of native hosts, and to them, at each record.
 use Rattle.theory_first_natives.proofs.NewToEachOther as new_to_each_other
-use Rattle.theory_first_natives.proofs.ToNew as to_new
+use Rattle.theory_first_natives.proofs.to_native.ToNew as to_new
 use Rattle.theory_first_natives.proofs.Words.{Grown, HistoriesCarryFromNatives, HistoriesCarryToNatives, earlier, subst, ◌++◌, ◌∷◌}
 
 pub histories : HistoriesCarryFromNatives

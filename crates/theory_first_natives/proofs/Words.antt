@@ -134,28 +134,28 @@ pub use Rattle.theory_settled.specs.Clients.{asks_at, client_address}
 pub use Rattle.theory_origins.specs.Sources.{outermost}
 pub use Rattle.theory_ways.proofs.LawProofs.{enters_by_its_way, is_let_in}
 pub use Rattle.theory_ways.specs.Ways.{IsChained, has_symmetric, is_all_cone, nat_of, nats_of}
-pub use Rattle.theory_first_packets.proofs.Addresses.{nat_has, two_kinds}
-pub use Rattle.theory_first_packets.proofs.AllSent.{DoesSend, all_leaves}
-pub use Rattle.theory_first_packets.proofs.Arrivals.{Arrival, At, arrival, at_most_last, bubble_small, no_more, one_more}
-pub use Rattle.theory_first_packets.proofs.AtServer.{MayTell}
-pub use Rattle.theory_first_packets.proofs.Brought.{some_so, within_longer}
-pub use Rattle.theory_first_packets.proofs.Counted.{AreOpen, is_open, one_open, with_next, without_last}
 pub use Rattle.theory_first_packets.proofs.Deliveries.{Did, Handing}
-pub use Rattle.theory_first_packets.proofs.Elsewhere.{from_no_server, server_elsewhere}
-pub use Rattle.theory_first_packets.proofs.Ends.{IsEnd, Settles, is_end, usable_at, way_of_server}
-pub use Rattle.theory_first_packets.proofs.Given.{entry_given, given_here, waits_for_it}
 pub use Rattle.theory_first_packets.proofs.HandedIn.{IsHandedIn, sound_first}
-pub use Rattle.theory_first_packets.proofs.IndirectBubble.{MayAnswer, answers_it}
 pub use Rattle.theory_first_packets.proofs.Journals.{at_same_moment, other_journal}
-pub use Rattle.theory_first_packets.proofs.Known.{Touches, known_after, listed_after, not_full, not_spent, seen_by_touch, trusted_after, trusted_before, untried}
-pub use Rattle.theory_first_packets.proofs.Lists.{each_so, last_there, one_longer}
-pub use Rattle.theory_first_packets.proofs.OnWay.{IsOnWay}
-pub use Rattle.theory_first_packets.proofs.OwnAddress.{IsHere, address_is, address_renewed, address_stays, is_here}
-pub use Rattle.theory_first_packets.proofs.Received.{entry_here}
-pub use Rattle.theory_first_packets.proofs.Sent.{IsElsewhere}
-pub use Rattle.theory_first_packets.proofs.Sides.{ComesIn, setup}
-pub use Rattle.theory_first_packets.proofs.Ways.{IsCalmNext, LeavesNats}
-pub use Rattle.theory_first_packets.proofs.WaysIn.{asked_along, cone_along, enters_along, still_in}
+pub use Rattle.theory_first_packets.proofs.passing.Addresses.{nat_has, two_kinds}
+pub use Rattle.theory_first_packets.proofs.passing.AllSent.{DoesSend, all_leaves}
+pub use Rattle.theory_first_packets.proofs.passing.Arrivals.{Arrival, At, arrival, at_most_last, bubble_small, no_more, one_more}
+pub use Rattle.theory_first_packets.proofs.passing.Elsewhere.{from_no_server, server_elsewhere}
+pub use Rattle.theory_first_packets.proofs.passing.Ends.{IsEnd, Settles, is_end, usable_at, way_of_server}
+pub use Rattle.theory_first_packets.proofs.passing.OnWay.{IsOnWay}
+pub use Rattle.theory_first_packets.proofs.passing.OwnAddress.{IsHere, address_is, address_renewed, address_stays, is_here}
+pub use Rattle.theory_first_packets.proofs.passing.Sent.{IsElsewhere}
+pub use Rattle.theory_first_packets.proofs.passing.Sides.{ComesIn, setup}
+pub use Rattle.theory_first_packets.proofs.passing.Ways.{IsCalmNext, LeavesNats}
+pub use Rattle.theory_first_packets.proofs.passing.WaysIn.{asked_along, cone_along, enters_along, still_in}
+pub use Rattle.theory_first_packets.proofs.schedule.Brought.{some_so, within_longer}
+pub use Rattle.theory_first_packets.proofs.schedule.Counted.{AreOpen, is_open, one_open, with_next, without_last}
+pub use Rattle.theory_first_packets.proofs.tables.AtServer.{MayTell}
+pub use Rattle.theory_first_packets.proofs.tables.GivenPacket.{entry_given, given_here, waits_for_it}
+pub use Rattle.theory_first_packets.proofs.tables.IndirectBubble.{MayAnswer, answers_it}
+pub use Rattle.theory_first_packets.proofs.tables.Known.{Touches, known_after, listed_after, not_full, not_spent, seen_by_touch, trusted_after, trusted_before, untried}
+pub use Rattle.theory_first_packets.proofs.tables.Lists.{each_so, last_there, one_longer}
+pub use Rattle.theory_first_packets.proofs.tables.Received.{entry_here}
 pub use Rattle.theory_first_packets.specs.AlongWays.{OfEachSchedule}
 pub use Rattle.theory_first_packets.specs.FirstPacket.{GoesBetween}
 pub use Rattle.theory_first_packets.specs.MayMeet.{known_by}

@@ -1,7 +1,7 @@
 -- What a node did in the record of a delivery, and of a host's packet.
 use Rattle.theory_first_packets.proofs.Words.{Bool, Delivery, Entry, Ep, Follows, Full, HostHandsIn, Input, Ip6, IsActOf, IsGiven, IsReached, Item, Lab, List, Node, None, OfNode, Option, Some, Verb, [], acts, ap, delivered, dst_of, entry_input, entry_of, false, false≢true, given, handed_by, hosted, input_of, is_some, journal, no_ep, node_at, now, of_node, refl, rests, sendings, six, subst, sym, ticks, to_nobody, to_node, true, udp, unwrap_or, with_entry, ℕ, ◌∙◌, ◌∷◌, ◌≡◌}
 use Rattle.legal.specs.Kinds.{Hands}
-use Rattle.theory_first_packets.proofs.Ways.{LeavesNats, nats_left}
+use Rattle.theory_first_packets.proofs.passing.Ways.{LeavesNats, nats_left}
 
 -- node n, which is a, did e in the record after H, at the moment of the record before
 pub record Did (lab : Lab) (H : List Full) (q : Full) (n : ℕ) (a : Node) (e : Entry) : Type 0 where

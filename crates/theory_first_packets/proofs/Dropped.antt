@@ -1,17 +1,17 @@
 -- A first packet is dropped where its sender has no room for the receiver.
 use Rattle.theory_first_packets.proofs.Words.{ClientNode, Draws, Entry, Full, FullSenderDrops, GetsThrough, Grown, Ip6, IsSettled, IsTopology, IsTurnedAway, Lab, List, Send, Some, TopologyState, [], ap, armed, by_way, client, client_at, earlier, entry_of, false, fields_in, flat_is_chained, flat_lab, given, has_cone, has_room, is_fresh, journal, known, length, mentions, no_ep, not_listed, now, refl, settled_is_along, subst, sym, unlisted, way_out, wire, words, ℕ, ◌∙◌, ◌∷◌, ◌≡◌}
 use Rattle.teredo_node.specs.declared.fate.Fate.TheVariants as fate
-use Rattle.theory_first_packets.proofs.Ends.{IsEnd, Settles, is_end}
+use Rattle.theory_first_packets.proofs.passing.Ends.{IsEnd, Settles, is_end}
 use Rattle.theory_first_packets.proofs.Deliveries.{Did}
-use Rattle.theory_first_packets.proofs.HostPacket.{IsTurned, turned_away}
-use Rattle.theory_first_packets.proofs.Meeting.{Meets}
-use Rattle.theory_first_packets.proofs.OwnAddress.{IsHere, is_here}
-use Rattle.theory_first_packets.proofs.Sides.{Side, setup}
-use Rattle.theory_first_packets.proofs.Pair.{meets}
-use Rattle.theory_first_packets.proofs.Alone.{alone, as_long, first_is}
+use Rattle.theory_first_packets.proofs.tables.HostPacket.{IsTurned, turned_away}
+use Rattle.theory_first_packets.proofs.tables.Meeting.{Meets}
+use Rattle.theory_first_packets.proofs.passing.OwnAddress.{IsHere, is_here}
+use Rattle.theory_first_packets.proofs.passing.Sides.{Side, setup}
+use Rattle.theory_first_packets.proofs.schedule.Pair.{meets}
+use Rattle.theory_first_packets.proofs.schedule.Alone.{alone, as_long, first_is}
 use Rattle.theory_first_packets.proofs.HandedIn as handed_in
 use Rattle.theory_first_packets.proofs.HandedIn.{IsHandedIn}
-use Rattle.theory_first_packets.proofs.Arrivals.{beyond}
+use Rattle.theory_first_packets.proofs.passing.Arrivals.{beyond}
 
 -- after a record that makes nothing the packet doesn't get through
 kept_back : (lab : Lab) (H : List Full) (r : Full) → Grown lab (r ∷ H) → r.made ≡ [] → (m : ℕ) (own other : Ip6) (x : List ℕ)

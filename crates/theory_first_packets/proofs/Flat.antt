@@ -1,5 +1,5 @@
 -- Where no NAT is behind another one: the way of a client is its NAT, and to be settled is to be settled along it.
-use Rattle.theory_first_packets.proofs.PairStart.{each_next}
+use Rattle.theory_first_packets.proofs.schedule.PairStart.{each_next}
 use Rattle.theory_first_packets.proofs.Strangers.{each_course, each_first}
 use Rattle.theory_first_packets.proofs.Words.{AreStrangers, AreStrangersAlong, ClientNode, Draws, EachFirstPacketArrives, EachNextPacketArrives, EachTakesACourse, Full, Grown, Ip6, IsTopology, Lab, List, MayMeet, MayMeetAlong, TopologyState, earlier, flat_is_chained, flat_lab, refl, settled_is_along, ℕ, ◌∷◌}
 

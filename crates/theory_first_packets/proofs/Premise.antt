@@ -1,10 +1,10 @@
 -- What the premise of a packet says: two settled clients, and the record in which the packet is handed in.
 use Rattle.theory_first_packets.proofs.Words.{Entry, Full, Grown, HasNoFault, IsChained, IsNextPacketAlong, IsTopology, List, client, entry_of, false, fields_in, given, is_big, length, no_ep, now, sym, wire, ◌∷◌, ◌≡◌}
-use Rattle.theory_first_packets.proofs.Ends.{IsEnd, Settles, is_end}
+use Rattle.theory_first_packets.proofs.passing.Ends.{IsEnd, Settles, is_end}
 use Rattle.theory_first_packets.proofs.Deliveries.{Did, Handing}
 use Rattle.theory_first_packets.proofs.HandedIn as handed_in
 use Rattle.theory_first_packets.proofs.HandedIn.{IsHandedIn}
-use Rattle.theory_first_packets.proofs.Pair.{Pair, IsPair, meets}
+use Rattle.theory_first_packets.proofs.schedule.Pair.{Pair, IsPair, meets}
 
 -- THE SITUATION
 

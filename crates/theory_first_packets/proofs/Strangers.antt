@@ -1,10 +1,10 @@
 -- Strangers may meet: so a first packet between them is carried, and takes one of the courses.
 use Rattle.theory_first_packets.proofs.Words.{AreStrangersAlong, Bool, ClientNode, Contains, Ep, Fate, FirstPacketArrivesAlong, Full, Ip6, IsNew, IsReadyFor, IsUnbarredFor, Lab, List, MayMeetAlong, OfEachSchedule, Peer, StrangersMayMeet, TakesACourseAlong, ap, arith, courses, earlier, embedded, false, false≢true, has_cone, is_fresh, is_trusted_at, journal, known_by, mentions, no_peer, now, refl, subst, sym, true, unlisted, ℕ, ◌∷◌, ◌≡◌}
-use Rattle.theory_first_packets.proofs.Known.{untried}
+use Rattle.theory_first_packets.proofs.tables.Known.{untried}
 use Rattle.theory_first_packets.proofs.HandedIn.{sound_first}
 use Rattle.theory_first_packets.proofs.Premise.{IsStart}
-use Rattle.theory_first_packets.proofs.Course.{AtFirst}
-use Rattle.theory_first_packets.proofs.PairStart.{pair_of, ended, each_next}
+use Rattle.theory_first_packets.proofs.schedule.Course.{AtFirst}
+use Rattle.theory_first_packets.proofs.schedule.PairStart.{pair_of, ended, each_next}
 
 -- who is new is nothing known, so it is ready and unbarred
 module _ (H : List Full) (n : ℕ) (peer : Ip6) (new : IsNew H n peer) where

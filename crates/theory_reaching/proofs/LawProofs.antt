@@ -1,25 +1,25 @@
 -- The laws of this crate, each under the name of its call: crates above cite them from here.
 use Rattle.theory_reaching.proofs.Words.{GoneElsewhere, MovedBetweenClients, MovedTests, MovedToNatives, WordsAreKept}
 use Rattle.theory_reaching.proofs.EachWord.{words_kept}
-use Rattle.theory_reaching.proofs.MovedTest.{of_tests}
-use Rattle.theory_reaching.proofs.MovedWords.{between_clients, to_natives, to_nobody}
-pub use Rattle.theory_reaching.proofs.AwayForAll.{away_brings_nothing}
-pub use Rattle.theory_reaching.proofs.BarredBackWord.{barred_is_kept as barred_from_native_is_kept}
-pub use Rattle.theory_reaching.proofs.BarredClients.{barred_is_kept as barred_client_is_kept, barred_sender_is_silent}
-pub use Rattle.theory_reaching.proofs.BarredOut.{barred_is_kept as barred_to_native_is_kept}
-pub use Rattle.theory_reaching.proofs.FullBack.{full_is_kept as full_from_native_is_kept}
-pub use Rattle.theory_reaching.proofs.FullClients.{full_is_kept as full_client_is_kept}
-pub use Rattle.theory_reaching.proofs.FullOut.{full_is_kept as full_to_native_is_kept}
-pub use Rattle.theory_reaching.proofs.OffAndAway.{away_is_kept, off_is_kept}
-pub use Rattle.theory_reaching.proofs.OffHost.{off_makes_nothing}
-pub use Rattle.theory_reaching.proofs.OneNat.{one_nat_is_kept}
-pub use Rattle.theory_reaching.proofs.StaleClients.{stale_is_kept as stale_client_is_kept}
-pub use Rattle.theory_reaching.proofs.StaleNatives.{stale_is_kept as stale_from_native_is_kept}
-pub use Rattle.theory_reaching.proofs.StaleOut.{stale_is_kept as stale_to_native_is_kept}
-pub use Rattle.theory_reaching.proofs.ToNativesInTime.{nine_is_kept as within_nine_is_kept, six_is_kept as within_six_is_kept}
-pub use Rattle.theory_reaching.proofs.WithinBounds.{five_is_kept as within_five_is_kept, four_is_kept as within_four_is_kept}
-pub use Rattle.theory_reaching.proofs.WithinOne.{one_is_kept as within_one_is_kept}
-pub use Rattle.theory_reaching.proofs.WithinTwo.{two_is_kept as within_two_is_kept}
+use Rattle.theory_reaching.proofs.strays.MovedTest.{of_tests}
+use Rattle.theory_reaching.proofs.strays.MovedWords.{between_clients, to_natives, to_nobody}
+pub use Rattle.theory_reaching.proofs.no_address.AwayForAll.{away_brings_nothing}
+pub use Rattle.theory_reaching.proofs.from_native.BarredBackWord.{barred_is_kept as barred_from_native_is_kept}
+pub use Rattle.theory_reaching.proofs.clients.BarredClients.{barred_is_kept as barred_client_is_kept, barred_sender_is_silent}
+pub use Rattle.theory_reaching.proofs.to_native.BarredOut.{barred_is_kept as barred_to_native_is_kept}
+pub use Rattle.theory_reaching.proofs.from_native.FullBack.{full_is_kept as full_from_native_is_kept}
+pub use Rattle.theory_reaching.proofs.clients.FullClients.{full_is_kept as full_client_is_kept}
+pub use Rattle.theory_reaching.proofs.to_native.FullOut.{full_is_kept as full_to_native_is_kept}
+pub use Rattle.theory_reaching.proofs.no_address.OffAndAway.{away_is_kept, off_is_kept}
+pub use Rattle.theory_reaching.proofs.no_address.OffHost.{off_makes_nothing}
+pub use Rattle.theory_reaching.proofs.clients.OneNat.{one_nat_is_kept}
+pub use Rattle.theory_reaching.proofs.clients.StaleClients.{stale_is_kept as stale_client_is_kept}
+pub use Rattle.theory_reaching.proofs.from_native.StaleNatives.{stale_is_kept as stale_from_native_is_kept}
+pub use Rattle.theory_reaching.proofs.to_native.StaleOut.{stale_is_kept as stale_to_native_is_kept}
+pub use Rattle.theory_reaching.proofs.to_native.ToNativesInTime.{nine_is_kept as within_nine_is_kept, six_is_kept as within_six_is_kept}
+pub use Rattle.theory_reaching.proofs.clients.WithinBounds.{five_is_kept as within_five_is_kept, four_is_kept as within_four_is_kept}
+pub use Rattle.theory_reaching.proofs.clients.WithinOne.{one_is_kept as within_one_is_kept}
+pub use Rattle.theory_reaching.proofs.relays.WithinTwo.{two_is_kept as within_two_is_kept}
 
 pub moved_straight_is_kept : MovedBetweenClients × MovedToNatives × GoneElsewhere × MovedTests
 moved_straight_is_kept = (between_clients, to_natives, to_nobody, of_tests)

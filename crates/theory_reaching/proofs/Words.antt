@@ -186,50 +186,50 @@ pub use Rattle.theory_ways.proofs.LawProofs.{enters_by_its_way, is_let_in}
 pub use Rattle.theory_ways.specs.Inwards.{EntersPast}
 pub use Rattle.theory_ways.specs.SettledAlong.{IsSettledAlong}
 pub use Rattle.theory_ways.specs.Ways.{IsChained, has_symmetric, is_all_cone, nat_of, nats_of, outer_nats_of}
-pub use Rattle.theory_first_packets.proofs.Addresses.{is_nat_node, own_address_is, two_kinds}
-pub use Rattle.theory_first_packets.proofs.AllSent.{AllSent, all_leaves}
-pub use Rattle.theory_first_packets.proofs.Alone.{alone, as_long, first_is, on_wire}
-pub use Rattle.theory_first_packets.proofs.Arrivals.{Arrival, arrival, beyond, bubble_message, bubble_small}
-pub use Rattle.theory_first_packets.proofs.AtServer.{MayTell}
-pub use Rattle.theory_first_packets.proofs.Brought.{some_so, within_so}
 pub use Rattle.theory_first_packets.proofs.Deliveries.{Did, Handing, did_with, host_hands, leaves_nats}
-pub use Rattle.theory_first_packets.proofs.Elsewhere.{from_no_server, no_server_address, no_server_second, server_elsewhere}
-pub use Rattle.theory_first_packets.proofs.Ends.{IsEnd, Settles, is_end, way_of_server}
-pub use Rattle.theory_first_packets.proofs.Given.{sent_there, stands_for}
 pub use Rattle.theory_first_packets.proofs.HandedIn.{IsHandedIn, sound_first}
-pub use Rattle.theory_first_packets.proofs.HostPacket.{goes_at_once, out}
-pub use Rattle.theory_first_packets.proofs.Inward.{Comes, comes_or_not, let_in_too, shut_there}
 pub use Rattle.theory_first_packets.proofs.Journals.{at_same_moment, other_journal}
-pub use Rattle.theory_first_packets.proofs.Known.{no_trust}
 pub use Rattle.theory_first_packets.proofs.LawProofs.{next_packet_arrives_along}
-pub use Rattle.theory_first_packets.proofs.Lists.{each_pair, each_so, last_there, one_longer, same_number}
-pub use Rattle.theory_first_packets.proofs.Meeting.{Meets, hands_packet}
-pub use Rattle.theory_first_packets.proofs.OnWay.{IsOnWay, no_nat, not_of}
-pub use Rattle.theory_first_packets.proofs.OwnAddress.{IsHere, address_is, is_here}
-pub use Rattle.theory_first_packets.proofs.Pair.{meets}
-pub use Rattle.theory_first_packets.proofs.Reaching.{to_client, to_none, to_server}
-pub use Rattle.theory_first_packets.proofs.Received.{entry_here, seen_here as seen_at_client}
-pub use Rattle.theory_first_packets.proofs.Sent.{IsElsewhere}
-pub use Rattle.theory_first_packets.proofs.Sides.{setup}
-pub use Rattle.theory_first_packets.proofs.Ways.{IsCalmNext, Way, any_dst, nats_left, still_way}
-pub use Rattle.theory_first_packets.proofs.WaysIn.{WayIn, asked_along, cone_along, enters_along, still_in}
+pub use Rattle.theory_first_packets.proofs.passing.Addresses.{is_nat_node, own_address_is, two_kinds}
+pub use Rattle.theory_first_packets.proofs.passing.AllSent.{AllSent, all_leaves}
+pub use Rattle.theory_first_packets.proofs.passing.Arrivals.{Arrival, arrival, beyond, bubble_message, bubble_small}
+pub use Rattle.theory_first_packets.proofs.passing.Elsewhere.{from_no_server, no_server_address, no_server_second, server_elsewhere}
+pub use Rattle.theory_first_packets.proofs.passing.Ends.{IsEnd, Settles, is_end, way_of_server}
+pub use Rattle.theory_first_packets.proofs.passing.Inward.{Comes, comes_or_not, let_in_too, shut_there}
+pub use Rattle.theory_first_packets.proofs.passing.OnWay.{IsOnWay, no_nat, not_of}
+pub use Rattle.theory_first_packets.proofs.passing.OwnAddress.{IsHere, address_is, is_here}
+pub use Rattle.theory_first_packets.proofs.passing.Reaching.{to_client, to_none, to_server}
+pub use Rattle.theory_first_packets.proofs.passing.Sent.{IsElsewhere}
+pub use Rattle.theory_first_packets.proofs.passing.Sides.{setup}
+pub use Rattle.theory_first_packets.proofs.passing.Ways.{IsCalmNext, Way, any_dst, nats_left, still_way}
+pub use Rattle.theory_first_packets.proofs.passing.WaysIn.{WayIn, asked_along, cone_along, enters_along, still_in}
+pub use Rattle.theory_first_packets.proofs.schedule.Alone.{alone, as_long, first_is, on_wire}
+pub use Rattle.theory_first_packets.proofs.schedule.Brought.{some_so, within_so}
+pub use Rattle.theory_first_packets.proofs.schedule.Pair.{meets}
+pub use Rattle.theory_first_packets.proofs.tables.AtServer.{MayTell}
+pub use Rattle.theory_first_packets.proofs.tables.GivenPacket.{sent_there, stands_for}
+pub use Rattle.theory_first_packets.proofs.tables.HostPacket.{goes_at_once, out}
+pub use Rattle.theory_first_packets.proofs.tables.Known.{no_trust}
+pub use Rattle.theory_first_packets.proofs.tables.Lists.{each_pair, each_so, last_there, one_longer, same_number}
+pub use Rattle.theory_first_packets.proofs.tables.Meeting.{Meets, hands_packet}
+pub use Rattle.theory_first_packets.proofs.tables.Received.{entry_here, seen_here as seen_at_client}
 pub use Rattle.theory_first_packets.specs.AlongWays.{MayMeetAlong}
 pub use Rattle.theory_first_packets.specs.FirstPacket.{Arrives, GetsThrough, GoesBetween, HasArrived, HostHandsIn}
 pub use Rattle.theory_first_packets.specs.MayMeet.{known_by}
 pub use Rattle.theory_first_packets.specs.Schedules.{AreFresh, DeliversFresh, HasNoFault, IsComplete, is_fault}
 pub use Rattle.theory_first_natives.proofs.Apart.{is_client_node, is_native_node, is_relay_node, sixes_apart}
-pub use Rattle.theory_first_natives.proofs.ClientTests.{answers_nothing}
-pub use Rattle.theory_first_natives.proofs.ForHost.{IsForHost, goes_out}
-pub use Rattle.theory_first_natives.proofs.FromTrusted.{IsFromTrusted, handed_at_once}
 pub use Rattle.theory_first_natives.proofs.LawProofs.{next_from_native_arrives, next_to_native_arrives}
-pub use Rattle.theory_first_natives.proofs.Makes.{native_echoes, native_gives, relay_passes, relay_sends}
-pub use Rattle.theory_first_natives.proofs.NativeReads.{asked, native_answers, reply_fields, test_carries, test_fields, test_reads}
-pub use Rattle.theory_first_natives.proofs.NativeTables.{goes_to_six, packet_goes_on, unlisted_is_dropped}
-pub use Rattle.theory_first_natives.proofs.OneMoreListed.{others_stay}
 pub use Rattle.theory_first_natives.proofs.RelayEndpoint.{IsBeside}
-pub use Rattle.theory_first_natives.proofs.RelayGives.{entry_six}
-pub use Rattle.theory_first_natives.proofs.RelayHears.{entry_in, of_peer, seen_here as seen_at_relay, unkeyed}
 pub use Rattle.theory_first_natives.proofs.Served.{is_served}
+pub use Rattle.theory_first_natives.proofs.tables.ClientTests.{answers_nothing}
+pub use Rattle.theory_first_natives.proofs.tables.FromTrusted.{IsFromTrusted, handed_at_once}
+pub use Rattle.theory_first_natives.proofs.tables.Makes.{native_echoes, native_gives, relay_passes, relay_sends}
+pub use Rattle.theory_first_natives.proofs.tables.NativeReads.{asked, native_answers, reply_fields, test_carries, test_fields, test_reads}
+pub use Rattle.theory_first_natives.proofs.tables.NativeTables.{goes_to_six, packet_goes_on, unlisted_is_dropped}
+pub use Rattle.theory_first_natives.proofs.tables.OneMoreListed.{others_stay}
+pub use Rattle.theory_first_natives.proofs.tables.RelayGives.{entry_six}
+pub use Rattle.theory_first_natives.proofs.tables.RelayHears.{entry_in, of_peer, seen_here as seen_at_relay, unkeyed}
+pub use Rattle.theory_first_natives.proofs.to_native.ForHost.{IsForHost, goes_out}
 pub use Rattle.theory_first_natives.specs.MayMeetThroughRelay.{MayAskClient, MayMeetThroughRelay, MayTest, known_by_relay, must_ask, trusts_client}
 pub use Rattle.theory_first_natives.specs.NextFromNative.{GivesToHost, most_deliveries, most_from_native}
 pub use Rattle.theory_first_natives.specs.NextToNative.{MayReachNative}

@@ -1,9 +1,9 @@
 -- How many deliveries follow, by what is undelivered and what waits where.
 use Rattle.theory_storms.proofs.Words.{AllByRecursion, Bool, FewByKind, Full, Grown, IsTopology, Lab, List, Node, Some, TopologyState, [], arith, client, client_packet, cond, earlier, false, false≢true, fields_in, is_echo_reply, is_of_relay, journal, length, less, message_in, nat, native, node_at, nodes, now, refl, relay, relay_mentions, server, six, slice_get, subst, suc, sum_by, sum_by-cons, sum_from, true, undelivered_items, waiting_at, waiting_from, waiting_in_client, waiting_in_relay, waiting_packets, waiting_weight, ℕ, ◌*◌, ◌+◌, ◌∷◌, ◌≡◌, ◌≤◌}
 use Rattle.client_rules.specs.Bearings as client_bearings
-use Rattle.theory_storms.proofs.OfHosts.{IsOfHost, undelivered_of_hosts}
+use Rattle.theory_storms.proofs.relays.OfHosts.{IsOfHost, undelivered_of_hosts}
 use Rattle.theory_storms.proofs.NineAtMost.{entries_nine}
-use Rattle.theory_storms.proofs.RelayWaits.{waiting_of_hosts}
+use Rattle.theory_storms.proofs.relays.RelayWaits.{waiting_of_hosts}
 use Rattle.theory_storms.proofs.Ending.{few_follow}
 
 -- PACKETS THAT WAIT

@@ -5,10 +5,10 @@ use Rattle.theory_storms.proofs.Sums.{all_under, one_counts}
 use Rattle.theory_storms.proofs.EasedWeights.{Ease, eased_least, eased_most, eased_under, no_more}
 use Rattle.theory_storms.proofs.Waits.{node_changes, none_changes, waits_most, waits_least}
 use Rattle.theory_storms.proofs.Reached.{Weighing, Comes, weigh_before, weigh_after, NodeEases, lasts_through}
-use Rattle.theory_storms.proofs.NodesEase.{nothing_made, server_eases}
-use Rattle.theory_storms.proofs.NativesEase.{native_eases}
-use Rattle.theory_storms.proofs.RelaysReached.{relay_eases}
-use Rattle.theory_storms.proofs.ClientsReached.{client_eases}
+use Rattle.theory_storms.proofs.others.NodesEase.{nothing_made, server_eases}
+use Rattle.theory_storms.proofs.others.NativesEase.{native_eases}
+use Rattle.theory_storms.proofs.relays.RelaysReached.{relay_eases}
+use Rattle.theory_storms.proofs.clients.ClientsReached.{client_eases}
 use Rattle.theory_storms.proofs.Exchanged.{exchanges as exchanges_holds}
 
 module _ (s : Weighing) where

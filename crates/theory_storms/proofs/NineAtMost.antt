@@ -2,8 +2,8 @@
 use Rattle.theory_storms.proofs.Words.{AllByRecursion, Bool, Ep, Full, Item, List, Node, None, Option, Some, TopologyState, [], arith, client, cond, eased_weight, eases_for_relay, false, false≢true, fields_in, first_passing, inl, inr, is_at, is_echo_reply, is_of_relay, length, less, message_in, nat, native, node_at, option_and_then, packet_weight, refl, relay, relay_trusts, server, six, sum_by, sum_by-cons, true, udp, weight_at, ℕ, ◌*◌, ◌∷◌, ◌≡◌, ◌≤◌, ◌⊎◌}
 use Rattle.theory_storms.proofs.Weighed.{datagram_most, served_most}
 use Rattle.theory_storms.proofs.EasedWeights.{Ease, eased_is, eased_most}
-use Rattle.theory_storms.proofs.TrustedClients.{packet_lines}
-use Rattle.theory_storms.proofs.OfHosts.{IsOfHost}
+use Rattle.theory_storms.proofs.clients.TrustedClients.{packet_lines}
+use Rattle.theory_storms.proofs.relays.OfHosts.{IsOfHost}
 
 abbrev z : Ease
 z = record { amount = 3; few = omega arith }

@@ -1,7 +1,7 @@
 -- A delivery that comes to a node: trust lasts, and what it has to weigh less than.
 use Rattle.theory_storms.proofs.Words.{Bool, Delivery, Entry, Ep, Full, Grown, Ip6, IsMissed, IsReached, IsTopology, Item, Journal, Lab, List, Mention, Node, None, Option, RelayNode, RelaySettings, Some, TopologyState, TrustLasts, ap, client, done_with, eqb-false, eqb-true, false, is_some, items_of, journal, known, legal_deliveries, nat, native, node_at, now, refl, relay, relay_in, relay_mention, relay_mentions, relay_settings, relay_six, relay_trusts, server, six, subst, sum_by, sym, to_nobody, to_node, true, trusts_as, udp, unwrap_or, waiting_at, weight_with, with_entry, ℕ, ◌+◌, ◌<◌, ◌==◌, ◌∙◌, ◌∷◌, ◌≡◌}
-use Rattle.theory_storms.proofs.Relays.{one_more}
-use Rattle.theory_storms.proofs.Trusts as trusted
+use Rattle.theory_storms.proofs.relays.Relays.{one_more}
+use Rattle.theory_storms.proofs.relays.Trusts as trusted
 use Rattle.theory_storms.proofs.EasedWeights.{Ease, Lasts}
 
 -- a record after a history in which relays trust whom they trusted, and the ease with which is weighed

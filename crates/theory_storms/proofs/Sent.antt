@@ -3,7 +3,7 @@ use Rattle.theory_storms.proofs.Words.{Bool, Ep, Fields, IsBytes, IsEp, List, No
 use Rattle.theory_storms.proofs.Weighed.{datagram_most}
 use Rattle.theory_storms.proofs.Places.{first_at, IsThere, is_there, ep_ip, any_there}
 use Rattle.theory_storms.proofs.Freights.{load, load_is, bubble_load, teredo_load, reply_load, packet_under, bubble_message, bubble_weight}
-use Rattle.theory_storms.proofs.AtServers.{teredo_there, looped_there, native_there, bubble_there}
+use Rattle.theory_storms.proofs.others.AtServers.{teredo_there, looped_there, native_there, bubble_there}
 
 -- what a server makes of a datagram
 abbrev drawn_from : TopologyState → Ep → Ep → List ℕ → ServerNode → ℕ

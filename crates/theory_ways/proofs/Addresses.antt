@@ -1,7 +1,7 @@
 -- Clients that are settled along their ways have different addresses.
 use Rattle.theory_ways.proofs.Words.{AddressesDiffer, ClientNode, Ep, Full, IsLetIn, IsTopology, Lab, List, Some, [], addresses_are_apart, ap, asks_at, chain_in, client, client_at, client_is_there, comes_to, each_is_reached, nat, nat_pasts, now, number_in, refl, subst, sym, udp, ℕ, ◌∙◌, ◌≡◌}
-use Rattle.theory_ways.proofs.Nats.{has_own}
-use Rattle.theory_ways.proofs.Inside.{one_end}
+use Rattle.theory_ways.proofs.chains.Nats.{has_own}
+use Rattle.theory_ways.proofs.inwards.Inside.{one_end}
 
 -- two clients to which datagrams to one endpoint are let in are one
 pub one_client : (lab : Lab) (H : List Full) {m : ℕ} {src src' dst : Ep} (i j : ℕ) {a b : ClientNode} → IsTopology lab.topology

@@ -1,6 +1,6 @@
 -- Clients with one outermost NAT never hear each other.
 use Rattle.theory_ways.proofs.Words.{Ep, GoesElsewhere, NeighboursAreUnheard, address_there, all_at, ap, goes_elsewhere, is_brought, nat_of, now, outermost, sym, udp, wire, ℕ, ◌∙◌, ◌≡◌}
-use Rattle.theory_ways.proofs.Climbs.{is_outermost}
+use Rattle.theory_ways.proofs.chains.Climbs.{is_outermost}
 
 pub neighbours_are_unheard : NeighboursAreUnheard
 neighbours_are_unheard lab H r is chained g honest n c x hands teredo same =

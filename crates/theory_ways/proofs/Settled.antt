@@ -1,8 +1,8 @@
 -- Settled along the way, where no NAT is behind another one: that is to be settled.
 use Rattle.theory_ways.proofs.Words.{Behind, EachIsSettledBehindOne, EachSettledIsAlong, EntersPast, Ep, IsPast, List, NatEntry, NatSettings, Some, WasAsked, [], and_from, and_parts, ap, asks_at, counting_datagram_holds_its_port, embedded, false, is_cone_kind, is_symmetric, let_in_where_asked, lets_in, list_all, list_any, live_after, live_port, nat_behind, nat_set_up, nats_of, now, or_from, or_parts, past_of_nat, plain_port, refl, set_up_past, subst, sym, true, way_out, ℕ, ◌∙◌, ◌∷◌, ◌≡◌}
-use Rattle.theory_ways.proofs.Chained.{flat_is_chained}
-use Rattle.theory_ways.proofs.Climbs.{enters_past}
-use Rattle.theory_ways.proofs.Enters.{is_let_in}
+use Rattle.theory_ways.proofs.chains.Chained.{flat_is_chained}
+use Rattle.theory_ways.proofs.chains.Climbs.{enters_past}
+use Rattle.theory_ways.proofs.inwards.Enters.{is_let_in}
 
 -- who is let in at a port of a NAT that isn't symmetric holds it towards everybody
 pub holds : (s : NatSettings) (h : List NatEntry) (n : ℕ) → IsPast s h n → is_symmetric s.kind ≡ false

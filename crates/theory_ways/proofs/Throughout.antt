@@ -1,7 +1,7 @@
 -- What holds along ways does at each record.
 use Rattle.theory_ways.proofs.Addresses.{addresses_differ}
 use Rattle.theory_ways.proofs.Neighbours.{neighbours_are_unheard}
-use Rattle.theory_ways.proofs.WithoutCone.{each_address_stays, each_verdict_is_right_along}
+use Rattle.theory_ways.proofs.phases.WithoutCone.{each_address_stays, each_verdict_is_right_along}
 use Rattle.theory_ways.proofs.Words.{Full, Grown, HistoriesHoldAlongWays, IsChained, IsTopology, Lab, List, NeighboursUnheardLast, [], earlier, subst, ◌∷◌}
 
 -- the latest record

@@ -79,7 +79,7 @@ pub use Rattle.theory_verdicts.specs.Undisturbed.{began_seen, has_sent, was_answ
 pub use Rattle.theory_ways.specs.RightAlong.{IsRightAlong}
 pub use Rattle.theory_ways.specs.UndisturbedAlong.{passed_known, was_restarted, was_shut_along}
 pub use Rattle.theory_ways.specs.Ways.{has_symmetric, is_all_cone, nats_of, outer_nats_of}
-pub use Rattle.theory_first_packets.proofs.Brought.{within_longer}
+pub use Rattle.theory_first_packets.proofs.schedule.Brought.{within_longer}
 pub use Rattle.theory_first_packets.specs.FirstPacket.{GetsThrough, GoesBetween, HasArrived, HostHandsIn}
 pub use Rattle.theory_first_packets.specs.MayMeet.{known_by}
 pub use Rattle.theory_first_packets.specs.Schedules.{AreFresh, DeliversFresh, HasNoFault, IsComplete, IsWithin, SomeIs, is_fault}

@@ -1,0 +1,109 @@
+-- What a client does with a packet of a native that it may test: it holds the packet, and tests the native.
+use Rattle.theory_first_natives.proofs.Words.{Bool, Entry, Ep, Fields, Ip6, IsForClient, IsHere, IsSuspect, Journal, List, MayTest, Message, None, Option, ReadsPayload, Seen, Settings, Some, Value, Words, [], address_is, advert_row, and_left, ap, arrived, client_in, cond, drop, echo_reply, echo_request, embedded, entry_here, false, false≢true, has_room, is_big, is_bubble, is_confirmed, is_echo_reply, is_from_server, is_global6, is_keyed, is_reply_to, is_teredo, is_trusted_at, known, mentions, message_in, nonce_from, nonce_of_words, other, own_address, packet_in, qualification, refl, router_advert, router_solicit, same_ep, same_ip6, same_ip6-self, seen_of, send, server_ep, standing_at, subst, sym, test, test_bytes, true, value_in, value_written, ℕ, ◌∙◌, ◌∷◌, ◌≡◌}
+use Rattle.teredo_node.specs.declared.fate.Fate.TheVariants as fate
+use Rattle.theory_first_packets.proofs.tables.Received.{seen_here}
+use Rattle.theory_first_natives.proofs.tables.NativeTables.{packet_is_held}
+
+-- what is no echo reply answers no test
+pub answers_nothing : (nonce : Option ℕ) (m : Option Message) → is_echo_reply m ≡ false → is_reply_to nonce m ≡ false
+answers_nothing None m e = refl
+answers_nothing (Some nonce) None e = refl
+answers_nothing (Some nonce) (Some (echo_request id seq body)) e = refl
+answers_nothing (Some nonce) (Some (echo_reply id seq body)) e = absurd (false≢true (sym e))
+answers_nothing (Some nonce) (Some (router_solicit options)) e = refl
+answers_nothing (Some nonce) (Some (router_advert hop flags life reach retrans options)) e = refl
+answers_nothing (Some nonce) (Some (other kind code rest)) e = refl
+
+-- a packet of a native for this client came from an endpoint that is none of its server's
+pub record IsFromNative (s : Settings) (j : Journal) (at : Ep) (p : Fields) : Type 0 where
+  pub here : IsHere s j p.dst
+  pub elsewhere : is_from_server s at ≡ false
+  pub native : is_teredo p.src ≡ false
+  pub global : is_global6 p.src ≡ true
+  pub other : same_ip6 p.src p.dst ≡ false
+  pub small : is_big p ≡ false
+
+module _ (s : Settings) (j : Journal) (n : ℕ) (at : Ep) (p : Fields) (is : IsFromNative s j at p) where
+  abbrev v : Value
+  v = value_written None None p
+
+  pub own_is : own_address (qualification s j) ≡ p.dst
+  own_is = address_is s j p.dst is.here.address
+
+  unkeyed : is_keyed v.lead ≡ false
+  unfolding is_keyed
+  unkeyed = refl
+
+  unconfirmed : is_confirmed v.lead ≡ false
+  unfolding is_confirmed
+  unconfirmed = refl
+
+  abbrev pub seen_so : Seen
+  seen_so = seen_of s (standing_at s j n p.src) at true v
+
+  pub for_client : IsForClient seen_so
+  unfolding standing_at
+  for_client = record {
+    sound = record { payload = refl; unkeyed = unkeyed; unconfirmed = unconfirmed; short = is.small };
+    qualified = is.here.qualified;
+    mine = ap (same_ip6 p.dst) own_is ∙ same_ip6-self p.dst;
+    foreign = ap (same_ip6 p.src) own_is ∙ is.other;
+  }
+
+  -- the native, for which there is room, isn't trusted there and may be tested, and the packet is neither a bubble nor an echo reply
+  pub record IsTestable : Type 0 where
+    pub untrusted : is_trusted_at at (known (mentions j.entries) n p.src) ≡ false
+    pub may : MayTest n (known (mentions j.entries) n p.src)
+    pub room : has_room (mentions j.entries) n p.src ≡ true
+    pub no_bubble : is_bubble p ≡ false
+    pub no_reply : is_echo_reply (message_in p) ≡ false
+
+  suspect : IsTestable → IsSuspect false seen_so
+  unfolding standing_at
+  suspect new = record {
+    direct = record { mine = for_client; direct = is.elsewhere };
+    untrusted = new.untrusted;
+    native = is.native;
+    global = is.global;
+    stale = new.may.stale;
+    unbarred = new.may.unbarred;
+    room = new.room;
+    no_bubble = new.no_bubble;
+    no_reply = new.no_reply;
+    kept = new.may.kept;
+  }
+
+  -- it is held, and a test with a nonce goes to the server
+  pub record TestsIt (x : List ℕ) (nonce : ℕ) (e : Entry) : Type 0 where
+    pub fate : e.step.fate ≡ fate.HeldTest
+    pub sends : e.step.sends ≡ send (server_ep s.primary) (test_bytes p.dst p.src nonce) ∷ []
+    pub about : e.peer ≡ Some p.src
+    pub moment : e.moment ≡ n
+    pub came : e.input ≡ arrived at x
+    pub packet : e.packet ≡ Some x
+    pub drew : nonce_of_words e.words ≡ Some nonce
+
+  test_is : (w : Words) → test s (own_address (qualification s j)) p.src (nonce_from w) ≡ send (server_ep s.primary) (test_bytes p.dst p.src (nonce_from w))
+  unfolding test
+  test_is w = ap (λ (z : Ip6). send (server_ep s.primary) (test_bytes z p.src (nonce_from w))) own_is
+
+  whole : (x : List ℕ) → ReadsPayload v x → packet_in x ≡ Some x
+  unfolding packet_in
+  whole x reads = ap (λ (b : Bool). cond b (Some (drop (value_in x).lead.at x)) None) reads.is_one ∙ ap (λ (u : Value). Some (drop u.lead.at x)) reads.value
+
+  pub tests_it : IsTestable → (x : List ℕ) → ReadsPayload v x → (w : Words) → TestsIt x (nonce_from w) (client_in s j n at x w)
+  unfolding standing_at
+  tests_it new x reads w =
+      subst (TestsIt x (nonce_from w)) (sym (entry_here s j n at x v reads w fate.HeldTest
+      (packet_is_held (seen_here s j n at x v reads) (advert_row s (standing_at s j n p.src).qualification at v) (suspect new)
+      (and_left (is_teredo p.src) (same_ep (embedded p.src) at) is.native)
+      (answers_nothing (known (mentions j.entries) n p.src).nonce (message_in p) new.no_reply))))
+      (record {
+        fate = refl;
+        sends = ap (λ z. z ∷ []) (test_is w);
+        about = refl;
+        moment = refl;
+        came = refl;
+        packet = whole x reads;
+        drew = refl;
+      })

@@ -1,0 +1,88 @@
+-- `within 1`: the packet goes at once, and is let in.
+use Rattle.theory_reaching.proofs.Words.{AreFresh, Bool, ClientNode, ComesInTime, Full, Grown, IsChained, IsSentNext, IsTopology, KeepsItsPromise, Lab, List, Node, Reach, Relayed, Some, TwoClients, and_parts, ap, between_clients_lines, between_clients_row, by_lines, client, false, from_native_lines, from_native_row, is_settled, node_at, not, refl, relayed, sound_first, subst, sym, to_native_lines, to_native_row, true, two_clients, ℕ, ◌&&◌, ◌++◌, ◌||◌, ◌∙◌, ◌∷◌, ◌≡◌}
+use Rattle.theory_settled.proofs.Earlier.{earlier}
+use Rattle.theory_reaching.specs.declared.word.Reach.TheVariants as word
+use Rattle.theory_reaching.proofs.Tests.{elsewhere, held}
+use Rattle.theory_reaching.proofs.Lines.{which_held}
+use Rattle.theory_reaching.proofs.Pairs.{SaidBy, between_clients, to_native, from_native, said_by}
+use Rattle.theory_reaching.proofs.clients.BothSettled.{AreBoth}
+use Rattle.theory_reaching.proofs.clients.HandsOver.{in_time}
+
+-- WHAT THE LINES SAY
+
+abbrev is_one : Reach → Bool
+is_one word.Within1 = true
+is_one _ = false
+
+-- the packet goes at once, and is let in
+record GoesStraight (a : TwoClients) : Type 0 where
+  settled : a.settled ≡ true
+  apart : a.one_nat ≡ false
+  heard : a.heard ≡ true
+  let_in : (a.fresh && not a.let_in) ≡ false
+  quick : (a.fresh || a.to_cone) ≡ true
+
+goes_straight : (a : TwoClients) → is_one (between_clients_row a) ≡ true → GoesStraight a
+goes_straight a = by_lines (λ (r : Reach). is_one r ≡ true → GoesStraight a) (between_clients_lines a) word.Within5 (
+  (λ _ e. elsewhere e),
+  (λ _. (
+    (λ _ e. elsewhere e),
+    (λ _. (
+      (λ _ e. elsewhere e),
+      (λ settled. (
+        (λ _ e. elsewhere e),
+        (λ apart. (
+          (λ _ e. elsewhere e),
+          (λ heard. (
+            (λ _ e. elsewhere e),
+            (λ let_in. (
+              (λ quick _. record { settled = held a.settled settled; apart = apart; heard = held a.heard heard; let_in = let_in; quick = quick }),
+              (λ _. (
+                (λ _ e. elsewhere e),
+                (λ _. ((λ _ e. elsewhere e), (λ _. ((λ _ e. elsewhere e), (λ _. ((λ _ e. elsewhere e), (λ _. ((λ _ e. elsewhere e), (λ _ e. elsewhere e))))))))),
+              )),
+            )),
+          )),
+        )),
+      )),
+    )),
+  )),
+)
+
+-- it is never said of a native host
+never_to : (a : Relayed) → is_one (to_native_row a) ≡ true → ⊥
+never_to a e = which_held is_one (to_native_lines a) word.Within6 refl e
+
+never_from : (a : Relayed) → is_one (from_native_row a) ≡ true → ⊥
+never_from a e = which_held is_one (from_native_lines a) word.Within6 refl e
+
+-- THE WORD
+
+module _ (lab : Lab) (H : List Full) (is : IsTopology lab.topology) (chained : IsChained lab) (q : Full) (later : List Full) (n m : ℕ)
+    (a b : Node) (x : List ℕ) (g : Grown lab (later ++ q ∷ H)) (at : node_at lab.topology n ≡ Some a) (to : node_at lab.topology m ≡ Some b)
+    (sent : IsSentNext lab H q n m a x) (fresh : AreFresh q later) where
+  of_clients : (c d : ClientNode) → a ≡ client c → b ≡ client d → GoesStraight (two_clients lab H n m c d) → ComesInTime H q m b x later 1
+  unfolding two_clients
+  of_clients c d same other s =
+      let both = and_parts (is_settled lab H n c) (is_settled lab H m d) s.settled in
+      let are : AreBoth lab H q n m c d x = record {
+        rules = is;
+        chained = chained;
+        grown = earlier lab later (q ∷ H) g;
+        at = at ∙ ap (λ (z : Node). Some z) same;
+        to = to ∙ ap (λ (z : Node). Some z) other;
+        sender = both.0;
+        receiver = both.1;
+        apart = s.apart;
+        handed = sent.handed;
+        sound = sound_first q later fresh;
+      } in
+      subst (λ (z : Node). ComesInTime H q m z x later 1) (sym other) (in_time (record { lab = lab; H = H; q = q; n = n; m = m; c = c; d = d; x = x; are = are }) s.quick s.let_in s.heard later g fresh)
+
+pub one_is_kept : KeepsItsPromise word.Within1
+one_is_kept lab H is chained q later n m a b x g at to said sent fresh = by (said_by lab H n m word.Within1 a b at to said) where
+  by : SaidBy lab H n m a b word.Within1 → ComesInTime H q m b x later 1
+  by (between_clients c d same other e) = of_clients lab H is chained q later n m a b x g at to sent fresh c d same other
+      (goes_straight (two_clients lab H n m c d) (ap is_one e))
+  by (to_native c h r same other through e) = absurd (never_to (relayed lab H n c h r) (ap is_one e))
+  by (from_native h c r same other through e) = absurd (never_from (relayed lab H m c h r) (ap is_one e))

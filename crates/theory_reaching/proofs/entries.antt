@@ -1,0 +1,20 @@
+-- What a client or a relay does with what comes to it, by its table.
+pub mod IdleFates
+pub mod Quiet
+pub mod Tries
+pub mod BubblesOut
+pub mod ToHost
+pub mod TestTried
+pub mod TestRelayed
+pub mod RoomForBoth
+pub mod KnownAfter
+pub mod RelayAsks
+pub mod ClientDeaf
+pub mod NoRoomLeft
+pub mod HostAsks
+pub mod ClientKeeps
+pub mod ClientAnswers
+pub mod HostMentions
+pub mod RelayMute
+pub mod StraightOut
+pub mod StaysOff

@@ -1,0 +1,20 @@
+-- From a native host to a client.
+pub mod NoneFollow
+pub mod FromHost
+pub mod FromNatives
+pub mod BackToClient
+pub mod ShutBack
+pub mod StaleNatives
+pub mod NativeMayMeetByWord
+pub mod FromNativesInTime
+pub mod RelayTells
+pub mod HeldUp
+pub mod BarredBack
+pub mod BarredBackWord
+pub mod HeldUpAtRelay
+pub mod HeldUpAtClient
+pub mod HeldUpThroughout
+pub mod HeldUpTold
+pub mod RoomForOne
+pub mod CrowdedBack
+pub mod FullBack

@@ -1,0 +1,45 @@
+-- `within 5`, `within 6` and `within 9` from a native host: its packet comes by then, past the client's test where this doesn't trust the host
+-- at the relay and, where the relay doesn't know the client, past the relay's bubble.
+use Rattle.theory_reaching.proofs.Words.{AreFresh, Bool, ClientNode, ComesInTime, Full, Grown, HostHandsIn, Ip6, IsChained, IsSentNext, IsTopology, KeepsFromNatives, Lab, List, NativeNode, Reach, RelayNode, Some, address_at, address_of, ap, client, false, most_from_native, native, next_from_native_arrives, node_at, reach_of, relay_at, relayed, subst, true, ℕ, ◌++◌, ◌∷◌, ◌≡◌}
+use Rattle.theory_reaching.specs.declared.word.Reach.TheVariants as word
+use Rattle.theory_reaching.proofs.Pairs.{of_native_and_client}
+use Rattle.theory_reaching.proofs.from_native.NativeMayMeetByWord.{PassesTo, SaysBack, says_back, native_may_meet}
+
+-- THE WORDS
+
+module _ (lab : Lab) (H : List Full) (is : IsTopology lab.topology) (chained : IsChained lab) (q : Full) (later : List Full)
+    (n m : ℕ) (h : NativeNode) (d : ClientNode) (x : List ℕ) (g : Grown lab (later ++ q ∷ H)) (at : node_at lab.topology n ≡ Some (native h))
+    (to : node_at lab.topology m ≡ Some (client d)) (sent : IsSentNext lab H q n m (native h) x) (fresh : AreFresh q later) where
+  -- through its relay
+  pub through : (r : RelayNode) → relay_at lab.topology h.relay ≡ Some r → (trusted nine : Bool) → PassesTo trusted nine (relayed lab H m d h r)
+      → ComesInTime H q m (client d) x later (most_from_native trusted nine)
+  unfolding relayed
+  through r by_relay trusted nine p =
+      let comes = next_from_native_arrives lab H q later is chained g m n h.relay d h r (address_at lab H m) x (record {
+        nodes = native_may_meet lab H m n d h r to at by_relay trusted nine p;
+        handed = subst (λ (z : Ip6). HostHandsIn q n z (address_at lab H m) x) (ap (address_of lab H n) at) sent.handed;
+        no_reply = sent.no_reply;
+      }) fresh in
+      subst (λ (b : Bool). ComesInTime H q m (client d) x later (most_from_native b nine)) p.host_trusted
+      (subst (λ (b : Bool). ComesInTime H q m (client d) x later (most_from_native (relayed lab H m d h r).trusted b)) p.asks
+      (record { whole = comes.whole; enough = λ _ many. comes.enough many }))
+
+  -- what is seen where the word is this
+  seen : (said : Reach) → reach_of lab H n m ≡ Some said
+      → (r : RelayNode) × (relay_at lab.topology h.relay ≡ Some r) × SaysBack (relayed lab H m d h r) said
+  seen said is_said = of_native_and_client lab H n m said (λ a. SaysBack a said) (λ a w. subst (SaysBack a) w (says_back a)) h d at to is_said
+
+  pub six : reach_of lab H n m ≡ Some word.Within6 → ComesInTime H q m (client d) x later 6
+  six is_said = let s = seen word.Within6 is_said in through s.0 s.1 false false s.2
+
+  pub nine : reach_of lab H n m ≡ Some word.Within9 → ComesInTime H q m (client d) x later 9
+  nine is_said = let s = seen word.Within9 is_said in through s.0 s.1 false true s.2
+
+  pub five : reach_of lab H n m ≡ Some word.Within5 → ComesInTime H q m (client d) x later 5
+  five is_said = let s = seen word.Within5 is_said in through s.0 s.1 true true s.2
+
+pub six_is_kept : KeepsFromNatives word.Within6
+six_is_kept lab H is chained q later n m h d x g at to said sent fresh = six lab H is chained q later n m h d x g at to sent fresh said
+
+pub nine_is_kept : KeepsFromNatives word.Within9
+nine_is_kept lab H is chained q later n m h d x g at to said sent fresh = nine lab H is chained q later n m h d x g at to sent fresh said

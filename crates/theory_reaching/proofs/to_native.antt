@@ -1,0 +1,23 @@
+-- From a client to a native host.
+pub mod RelaySends
+pub mod ToRelay
+pub mod AtNative
+pub mod ToNatives
+pub mod TestsOut
+pub mod TestPassed
+pub mod SilentAsker
+pub mod TestItems
+pub mod TestAnswered
+pub mod TestUnlike
+pub mod TestShut
+pub mod TestNever
+pub mod OwnTest
+pub mod Outwards
+pub mod UnlistedOut
+pub mod StaleOut
+pub mod NativeReachedByWord
+pub mod ToNativesInTime
+pub mod Unanswered
+pub mod UnansweredTest
+pub mod BarredOut
+pub mod FullOut

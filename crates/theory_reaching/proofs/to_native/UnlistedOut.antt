@@ -1,0 +1,116 @@
+-- A packet for a native host that goes to its relay at once, where the relay doesn't list the client: it is dropped there.
+use Rattle.theory_reaching.proofs.Words.{AllByRecursion, AreFresh, Arrival, ClientNode, Entry, Ep, Full, Grown, Input, Ip6, Item, Journal, Lab, List, NativeNode, None, Option, ReadsPayload, RelayNode, RelaySettings, Send, Some, SomeBrings, Value, [], address_at, ap, armed, arrival, arrived, at_same_moment, deliveries, embedded, entry_in, false, fields_in, filter_map, is_big, is_listed, is_teredo, item_in, journal, length, listed_is_known, native, node_at, node_is_reached, now, other_journal, outright, own_ep, packet_in, packet_is_payload, read_as, refl, relay, relay_in, relay_mention, relay_mentions, relay_reception_step, relay_settings, relay_standing_at, same_ep-self, six_made, slice_get, subst, sym, true, udp, unkeyed, unlisted_is_dropped, unwrap_or, value_written, wire, with_entry, wordless_entry, ℕ, ◌++◌, ◌∙◌, ◌∷◌, ◌≡◌}
+use Rattle.teredo_node.specs.declared.fate.Fate.TheVariants as fate
+use Rattle.theory_first_natives.proofs.tables.RelayHears.{seen_here}
+use Rattle.theory_reaching.proofs.relays.NodesApart.{client_relay, relay_native}
+use Rattle.theory_reaching.proofs.relays.RelayEnds.{relay_there}
+use Rattle.theory_reaching.proofs.schedules.Throughout.{Goes, none_brings}
+use Rattle.theory_reaching.proofs.to_native.ToRelay.{SentOut, IsSentOut, did, small, bytes, number, makes, teredo, fits}
+use Rattle.theory_reaching.proofs.clients.Unheard.{as_listed}
+use Rattle.theory_reaching.proofs.relays.Relays.{RelayedHosts}
+
+-- THE RELAY'S TABLE
+
+-- nothing is sent, and the client isn't listed afterwards
+record IsDropped (j : List Entry) (n : ℕ) (p : Ip6) (from : Ep) (x : List ℕ) (e : Entry) : Type 0 where
+  sends : e.step.sends ≡ []
+  six : e.step.six ≡ None
+  input : e.input ≡ arrived from x
+  listed : is_listed p n (relay_mentions (e ∷ j)) ≡ is_listed p n (relay_mentions j)
+
+module _ (s : RelaySettings) (j : List Entry) (n : ℕ) (x : List ℕ) (reads : ReadsPayload (value_written None None (fields_in x)) x)
+    (short : is_big (fields_in x) ≡ false) (teredo_src : is_teredo (fields_in x).src ≡ true)
+    (unlisted : is_listed (fields_in x).src n (relay_mentions j) ≡ false) where
+  abbrev peer : Ip6
+  peer = (fields_in x).src
+
+  abbrev from : Ep
+  from = embedded peer
+
+  abbrev v : Value
+  v = value_written None None (fields_in x)
+
+  abbrev got : Entry
+  got = wordless_entry n (arrived from x) (packet_in x) (Some peer) (relay_reception_step (relay_standing_at j n peer) x v fate.Unlisted)
+
+  is_dropped : IsDropped j n peer from x (relay_in s j n from x)
+  unfolding relay_standing_at relay_mentions
+  is_dropped = subst (IsDropped j n peer from x) (sym (entry_in s j n from x v reads fate.Unlisted
+      (unlisted_is_dropped (seen_here s j n from x v reads) refl (unkeyed (fields_in x)) short teredo_src (same_ep-self from)
+      (listed_is_known (relay_mentions j) n peer ∙ unlisted))))
+      (record { sends = refl; six = refl; input = refl; listed = as_listed (relay_mention got) (relay_mentions j) n refl peer })
+
+-- THE SCHEDULE
+
+module _ (lab : Lab) (H : List Full) (q : Full) (n m : ℕ) (c : ClientNode) (h : NativeNode) (r : RelayNode)
+    (x : List ℕ) (out : IsSentOut lab H q n m c h r x)
+    (unlisted : is_listed (address_at lab H n) (now H) (relay_mentions (journal h.relay H).entries) ≡ false) where
+  abbrev own : Ip6
+  own = address_at lab H n
+
+  abbrev k : ℕ
+  k = h.relay
+
+  abbrev the_three : RelayedHosts
+  the_three = record { lab = lab; H = H; n = n; m = m; c = c; h = h; r = r; are = out.are }
+
+  abbrev there : node_at lab.topology k ≡ Some (relay r)
+  there = relay_there the_three
+
+  abbrev IsIt : Item → Type 0
+  IsIt y = y ≡ udp (embedded own) r.at x
+
+  abbrev IsUnlisted : List Full → Type 0
+  IsUnlisted G = is_listed own (now G) (relay_mentions (journal k G).entries) ≡ false
+
+  module _ (G : List Full) (p : Full) (i : ℕ) (y : Item) (g : Grown lab (p ∷ G)) (delivered : p.delivered ≡ Some i) (at : slice_get (wire G) i ≡ Some y)
+      (is : IsIt y) (not_listed : IsUnlisted G) where
+    came : Arrival lab G p k (relay r) (udp (embedded own) r.at x)
+    came = arrival lab G p i (deliveries lab G p i g delivered) (record {
+      number = k;
+      node = relay r;
+      item = udp (embedded own) r.at x;
+      at = at ∙ ap (λ (z : Item). Some z) is;
+      goes = node_is_reached lab G (now G) (udp (embedded own) r.at x) k (relay r) out.are.rules there refl;
+    })
+
+    abbrev e : Entry
+    e = relay_in (relay_settings lab.topology k r) (journal k G).entries (now G) (embedded own) x
+
+    abbrev the_out : SentOut
+    the_out = record { lab = lab; H = H; q = q; n = n; m = m; c = c; h = h; r = r; x = x; sent_out = out }
+
+    it : IsDropped (journal k G).entries (now G) own (embedded own) x e
+    it =
+        let src = out.handed.packet.source in
+        subst (λ (z : Ip6). IsDropped (journal k G).entries (now G) z (embedded z) x
+        (relay_in (relay_settings lab.topology k r) (journal k G).entries (now G) (embedded z) x)) src
+        (is_dropped (relay_settings lab.topology k r) (journal k G).entries (now G) x
+        (packet_is_payload x (fields_in x) (bytes the_out)
+        (fits the_out (length x) out.handed.packet.short) (read_as x out.handed.packet.packet))
+        (small the_out) (ap is_teredo src ∙ teredo the_out)
+        (ap (λ (z : Ip6). is_listed z (now G) (relay_mentions (journal k G).entries)) src ∙ not_listed))
+
+    nothing : p.made ≡ []
+    nothing = came.did.made
+        ∙ ap (λ (xs : List Send). outright (own_ep (relay r)) (armed G) 0 xs ++ six_made e.input e.step.six) it.sends
+        ∙ ap (λ (u : Input). six_made u e.step.six) it.input
+        ∙ ap (six_made (arrived (embedded own) x)) it.six
+
+    step : Goes lab H q m (native h) x IsIt IsUnlisted G p
+    step = record {
+      made = subst (AllByRecursion IsIt) (sym (ap (filter_map item_in) nothing)) tt;
+      stays = at_same_moment (λ (j : Journal) (t : ℕ). is_listed own t (relay_mentions j.entries) ≡ false) G p k (with_entry (journal k G) e) came.did.moment
+          came.did.later (it.listed ∙ not_listed);
+      silent = λ b. relay_native the_three (ap (λ (o : Option ℕ). unwrap_or o k) (sym came.did.node ∙ b.node));
+    }
+
+  -- so no delivery brings it
+  pub none_come : (later : List Full) → Grown lab (later ++ q ∷ H) → AreFresh q later → SomeBrings m (native h) x later → ⊥
+  none_come = none_brings lab H q m (native h) x IsIt IsUnlisted (λ G p i y g sound delivered at is off. step G p i y g delivered at is off)
+      (number
+      (record { lab = lab; H = H; q = q; n = n; m = m; c = c; h = h; r = r; x = x; sent_out = out })) (subst (AllByRecursion IsIt) (sym (makes
+      (record { lab = lab; H = H; q = q; n = n; m = m; c = c; h = h; r = r; x = x; sent_out = out }))) (refl, tt))
+      (at_same_moment (λ (j : Journal) (t : ℕ). is_listed own t (relay_mentions j.entries) ≡ false) H q k (journal k H)
+      (did (record { lab = lab; H = H; q = q; n = n; m = m; c = c; h = h; r = r; x = x; sent_out = out })).moment
+      (other_journal lab H q n k (did (record { lab = lab; H = H; q = q; n = n; m = m; c = c; h = h; r = r; x = x; sent_out = out })).node (client_relay the_three)) unlisted)

@@ -1,0 +1,9 @@
+-- Between clients.
+pub mod TrustedClients
+pub mod ClientServers
+pub mod ClientTests
+pub mod AtClient
+pub mod ClientReleases
+pub mod ClientAnswers
+pub mod ClientsLighten
+pub mod ClientsReached
