@@ -5,7 +5,7 @@ use Rattle.td_audit.specs.declared.fault.AuditFault.TheVariants.{NoMemory}
 use Rattle.commands.specs.declared.explain_file.TellFault.TheVariants.{Failed, Fault}
 use Rattle.commands.specs.declared.audit_line.NoCapture.TheVariants as refusals
 
-module _ {i i' : SourceState} {o o' : SinkState} (asked : AuditWords) (file : List ℕ) (from : Opened 100663297 i i' file) where
+module _ (i i' : SourceState) (o o' : SinkState) (asked : AuditWords) (file : List ℕ) (from : Opened 100663297 i i' file) where
   -- what is so with a status
   abbrev Says : ℕ → Type 0
   Says status =
@@ -65,17 +65,17 @@ module _ {i i' : SourceState} {o o' : SinkState} (asked : AuditWords) (file : Li
 
 -- ---- the last line comes behind those of the records
 
-module _ {i i' : SourceState} {o mid o' : SinkState} (asked : AuditWords) (file : List ℕ) (from : Opened 100663297 i i' file) where
+module _ (i i' : SourceState) (o mid o' : SinkState) (asked : AuditWords) (file : List ℕ) (from : Opened 100663297 i i' file) where
   -- the file is a capture
   pub capture_ends : (rs : List Captured) (result : ℕ) → HasRecords i file rs → i'.faults ≡ i.faults → mid.faults ≡ o.faults → WritesLines o mid (lines_for asked rs)
       → LineEnds mid o' (tally_line (tally_of (said_for asked rs))) (tally_status (tally_of (said_for asked rs))) result → ExplainEnds i i' o o' asked file result
   capture_ends rs result is quiet same told (line_written ends still lines) =
       subst (λ (k : ℕ). ExplainEnds i i' o o' asked file k) (sym ends)
-      (all_written asked file from rs is (record { source = quiet; sink = still ∙ same })
+      (all_written i i' o o' asked file from rs is (record { source = quiet; sink = still ∙ same })
       (WritesLines-then o mid o' (lines_for asked rs) (tally_line (tally_of (said_for asked rs)) ∷ []) told lines))
   capture_ends rs result is quiet same told (line_failed ends rose lines) =
       subst (λ (k : ℕ). ExplainEnds i i' o o' asked file k) (sym ends)
-      (unwritten_ends asked file from quiet (subst (λ (n : ℕ). Rose n o'.faults) same rose)
+      (unwritten_ends i i' o o' asked file from quiet (subst (λ (n : ℕ). Rose n o'.faults) same rose)
       (of_capture rs is (BeginsLines-then o mid o' (lines_for asked rs) (tally_line (tally_of (said_for asked rs)) ∷ []) told lines)))
 
   -- the file is refused behind some records
@@ -83,11 +83,11 @@ module _ {i i' : SourceState} {o mid o' : SinkState} (asked : AuditWords) (file 
       → LineEnds mid o' (no_capture_line why) 11 result → ExplainEnds i i' o o' asked file result
   refusal_ends why rs result is quiet same told (line_written ends still lines) =
       subst (λ (k : ℕ). ExplainEnds i i' o o' asked file k) (sym ends)
-      (refused_written asked file from why rs is (record { source = quiet; sink = still ∙ same })
+      (refused_written i i' o o' asked file from why rs is (record { source = quiet; sink = still ∙ same })
       (WritesLines-then o mid o' (lines_for asked rs) (no_capture_line why ∷ []) told lines))
   refusal_ends why rs result is quiet same told (line_failed ends rose lines) =
       subst (λ (k : ℕ). ExplainEnds i i' o o' asked file k) (sym ends)
-      (unwritten_ends asked file from quiet (subst (λ (n : ℕ). Rose n o'.faults) same rose)
+      (unwritten_ends i i' o o' asked file from quiet (subst (λ (n : ℕ). Rose n o'.faults) same rose)
       (of_refusal why rs is (BeginsLines-then o mid o' (lines_for asked rs) (no_capture_line why ∷ []) told lines)))
 
 -- ---- by how the telling of the records ended
@@ -96,23 +96,23 @@ pub record IsRead (i : SourceState) (file bytes : List ℕ) : Type 0 where
   pub named : IfSome (i.stands_for file) (λ told. bytes ≡ told)
   pub short : length bytes ≤ 100663296
 
-module _ {i i' : SourceState} {o mid o' : SinkState} (asked : AuditWords) (file bytes : List ℕ) (from : Opened 100663297 i i' file) (found : IsRead i file bytes) (quiet : i'.faults ≡ i.faults) where
+module _ (i i' : SourceState) (o mid o' : SinkState) (asked : AuditWords) (file bytes : List ℕ) (from : Opened 100663297 i i' file) (found : IsRead i file bytes) (quiet : i'.faults ≡ i.faults) where
   pub told_ends : (tally : Tally) (result : ℕ) → TellsAll o mid asked bytes tally → LineEnds mid o' (tally_line tally) (tally_status tally) result → ExplainEnds i i' o o' asked file result
   told_ends tally result all line =
       let rs = all.records in
       let is : HasRecords i file rs = record { bytes = bytes; named = found.named; is = record { short = found.short; head = all.head; capture = all.capture } } in
-      capture_ends asked file from rs result is quiet all.same all.lines (subst (λ (t : Tally). LineEnds mid o' (tally_line t) (tally_status t) result) all.tally_is line)
+      capture_ends i i' o mid o' asked file from rs result is quiet all.same all.lines (subst (λ (t : Tally). LineEnds mid o' (tally_line t) (tally_status t) result) all.tally_is line)
 
   pub untold_ends : (fault : TellFault) (result : ℕ) → TellingEnds o mid asked bytes (Err fault) → TellFaultEnds mid o' fault result → ExplainEnds i i' o o' asked file result
   untold_ends Failed result within ends =
       let front : HasFront i file within.records = record { bytes = bytes; named = found.named; begins = within.begins } in
       subst (λ (k : ℕ). ExplainEnds i i' o o' asked file k) (sym ends.0)
-      (subst (λ (s : SinkState). ExplainEnds i i' o s asked file 5) (sym ends.1) (unwritten_ends asked file from quiet within.rose (of_front within.records front within.lines)))
+      (subst (λ (s : SinkState). ExplainEnds i i' o s asked file 5) (sym ends.1) (unwritten_ends i i' o mid asked file from quiet within.rose (of_front within.records front within.lines)))
   untold_ends (Fault (Capture fault)) result within ends =
       let is : IsRefused i file (refusals.Fault fault) within.records = record { bytes = bytes; named = found.named; is = (found.short, within.stop) } in
-      refusal_ends asked file from (refusals.Fault fault) within.records result is quiet within.same within.lines ends
+      refusal_ends i i' o mid o' asked file from (refusals.Fault fault) within.records result is quiet within.same within.lines ends
   untold_ends (Fault NoMemory) result within ends =
       let front : HasFront i file within.records = record { bytes = bytes; named = found.named; begins = within.stop } in
       subst (λ (k : ℕ). ExplainEnds i i' o o' asked file k) (sym ends.0)
       (subst (λ (s : SinkState). ExplainEnds i i' o s asked file 7) (sym ends.1)
-      (starved_behind asked file from within.records front (record { source = quiet; sink = within.same }) within.lines))
+      (starved_behind i i' o mid asked file from within.records front (record { source = quiet; sink = within.same }) within.lines))

@@ -2,7 +2,7 @@
 use Rattle.commands.proofs.Words.{Asked, BeginsLines, ClockState, Err, FindsLive, FindsNothing, Gains, HasCause, LineEnds, LinkState, Live, LiveTotals, MatchResult, NoSession, OffLine, Ok, OnOk, Qualified, QualifyEnds, Result, Rose, SendFaults, SessionOf, SinkState, Symmetric, Undecided, WritesLines, WritesNothing, [], arith, free_port_of, inl, inr, line_failed, line_written, lit<, live_status, qualify_line, refl, subst, sym, ℕ, ◌∷◌, ◌≡◌, ◌⊎◌}
 use Rattle.td_outside.specs.declared.fails.Failed.{Failed}
 
-module _ {o o' : SinkState} {l l' : LinkState} {c c' : ClockState} (asked : Asked) (opened : Gains l.openings l'.openings (free_port_of asked.inside)) where
+module _ (o o' : SinkState) (l l' : LinkState) (c c' : ClockState) (asked : Asked) (opened : Gains l.openings l'.openings (free_port_of asked.inside)) where
   pub unlinked_ends : Rose l.recv_faults l'.recv_faults → o'.faults ≡ o.faults → WritesNothing o o' → FindsNothing l l' c c' asked → QualifyEnds o o' l l' c c' asked 6
   unlinked_ends rose same nothing finds = record {
     statuses = (2, lit< tt, refl);

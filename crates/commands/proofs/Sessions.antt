@@ -40,8 +40,8 @@ left_so s (Err NoMemory) = refl
 
 -- ---- a session
 
-module _ {l l' : LinkState} {c c' : ClockState} (asked : ServeWords) (totals : Totals) {mid : Told} {receives sends : ℕ}
-    {places : Option Place} {s new : ServerSettings} (opened : places ≡ open_on asked.primary asked.secondary) (same : KeepsTold l.told mid)
+module _ (l l' : LinkState) (c c' : ClockState) (asked : ServeWords) (totals : Totals) (mid : Told) (receives sends : ℕ)
+    (places : Option Place) (s new : ServerSettings) (opened : places ≡ open_on asked.primary asked.secondary) (same : KeepsTold l.told mid)
     (kept : receives ≡ l.recv_faults) (other : sends ≡ l.send_faults) (made : s ≡ server_on asked) where
   -- the turns after the link was opened
   pub session : (ended : Result (Unit {0}) PumpFault)

@@ -111,9 +111,9 @@ module _ (w : Through) (old : WireState) (before : ChainsState) (sends : List Se
   it_crosses now new src crosses = subst (λ (k : ℕ). Crosses w (is_at_place k w.fails) now new x.to src) (sym (place_of sends i x at)) crosses
 
   -- the next one is put, or lost
-  pub one_through : {now new : WireState} {nats nats' : ChainsState} {said more : List Mark} (src : Result Ep Loss)
+  pub one_through : (now new : WireState) (nats nats' : ChainsState) (said more : List Mark) (src : Result Ep Loss)
       → ThroughSoFar w old now before nats sends i said → Crosses w (is_at_place i w.fails) nats nats' x.to src → ComesOnto now new said more (marked x src ∷ []) → ThroughSoFar w old new before nats' sends (i + 1) more
-  one_through {now} {new} {nats} {nats'} {said} {more} src so crosses puts = record {
+  one_through now new nats nats' said more src so crosses puts = record {
     enters = λ lab H is.
         let front = sent_in w lab H (take i sends) in
         let made = next_made w lab H nats nats' (take i sends) x src (it_crosses nats nats' src crosses) (so.knows lab H is) in
@@ -129,10 +129,10 @@ module _ (w : Through) (old : WireState) (before : ChainsState) (sends : List Se
   }
 
   -- where it isn't put, not all are
-  pub stops_through : {now new : WireState} {nats nats' : ChainsState} {said more : List Mark} (src : Result Ep Loss) {why : Stop}
+  pub stops_through : (now new : WireState) (nats nats' : ChainsState) (said more : List Mark) (src : Result Ep Loss) (why : Stop)
       → ThroughSoFar w old now before nats sends i said → Crosses w (is_at_place i w.fails) nats nats' x.to src → Puts now new said more (marked x src ∷ []) (Err why)
       → (lab : Lab) (H : List Full) → AreNatsWith lab H [] before → Puts old new [] more (sent_in w lab H sends).made (Err why)
-  stops_through {now} {new} {nats} {nats'} {said} {more} src {why} so crosses puts lab H is =
+  stops_through now new nats nats' said more src why so crosses puts lab H is =
       let front = sent_in w lab H (take i sends) in
       let last = next_in w lab H (take i sends) x in
       let made = next_made w lab H nats nats' (take i sends) x src (it_crosses nats nats' src crosses) (so.knows lab H is) in

@@ -27,7 +27,7 @@ records-preserved g c =
     let later = c.told-place-in-Some.ensures s x (w.records ++ more.0 ∷ []) more.1 in
     record {
       inside = c.in_ok-said.ensures.inside;
-      told = written_more asked x c.records.place c.in-Some.said w more _ _ c.in_ok-write_said.ensures later;
+      told = written_more _ _ _ asked x _ _ c.records.place c.in-Some.said w more _ _ c.in_ok-write_said.ensures later;
     }
 
 pub returns-in_err-write_said : goal.returns-in_err-write_said
@@ -38,4 +38,4 @@ returns-in_err-write_said g c =
     let w = c.records.invariant.told in
     let more = subst (λ (o : Option Said). ExplainsNext s c.explain_next.new.self x w.records o) c.in-Some.is (c.in_ok-said.ensures.next s x w.records w.explains) in
     let p = err_from_is_err_and c.from_residual-in_err-write_said.result c.from_residual-in_err-write_said.ensures.1 in
-    rw (p.1, p.2) (failed_more asked x c.records.place c.in-Some.said w more _ c.in_err-write_said.ensures)
+    rw (p.1, p.2) (failed_more _ _ _ asked x _ _ c.records.place c.in-Some.said w more _ c.in_err-write_said.ensures)

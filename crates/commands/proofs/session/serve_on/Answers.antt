@@ -11,7 +11,9 @@ returns-in-Err-clause-opened g c = Moves-Stays _ _ _ _ c.open.ensures.asked c.in
 pub returns-in-Ok-clause-served : goal.returns-in-Ok-clause-served
 returns-in-Ok-clause-served g c =
     let e = c.in-Ok.ensures in
-    session c.args.asked.now c.serve_loop.new.totals
+    session _ _ _ _ c.args.asked.now c.serve_loop.new.totals (g.L.Link.state c.open.new.self).told
+    (g.L.Link.state c.open.new.self).recv_faults (g.L.Link.state c.open.new.self).send_faults (g.L.Link.state c.open.new.self).place
+    c.new-server.result c.serve_loop.new.e
     c.in_ok-open.ensures.opened c.open.ensures.lists c.in_ok-open.ensures.cause.kept c.open.ensures.other c.new-server.ensures
     (Ok tt) e.turns e.places e.receives e.sends
 
@@ -19,6 +21,8 @@ pub returns-in-Err-clause-failed : goal.returns-in-Err-clause-failed
 returns-in-Err-clause-failed g c =
     let e = c.in-Err.ensures in
     inr (breaks_off _ _ _ _ c.args.asked.now c.serve_loop.new.totals c.in-Err.field-0
-    (session c.args.asked.now c.serve_loop.new.totals
+    (session _ _ _ _ c.args.asked.now c.serve_loop.new.totals (g.L.Link.state c.open.new.self).told
+    (g.L.Link.state c.open.new.self).recv_faults (g.L.Link.state c.open.new.self).send_faults (g.L.Link.state c.open.new.self).place
+    c.new-server.result c.serve_loop.new.e
     c.in_ok-open.ensures.opened c.open.ensures.lists c.in_ok-open.ensures.cause.kept c.open.ensures.other c.new-server.ensures
     (Err c.in-Err.field-0) e.turns e.places e.receives e.sends))

@@ -23,7 +23,7 @@ pub others-preserved : goal.others-preserved
 others-preserved g c =
     let inside : c.others.to < length (nodes c.args.topology.now) = omega (arith, c.others-test.true, c.node_count-end.ensures.count) in
     record {
-      said = λ d H stands. some_more (c.others.invariant.said d H stands)
+      said = λ d H stands. some_more _ _ _ _ _ _ _ _ _ _ _ (c.others.invariant.said d H stands)
           (pairs_on (lab_in d c.args.world.now) H c.args.from c.others.to (length (nodes c.args.topology.now)) inside)
           (c.in_ok-write_pair.ensures.said d H stands);
       within = omega (arith, c.others-test.true, c.node_count-end.ensures.most);
@@ -34,7 +34,7 @@ pub returns-in_err-write_pair-clause-said : goal.returns-in_err-write_pair-claus
 returns-in_err-write_pair-clause-said g c =
     let inside : c.others.to < length (nodes c.args.topology.now) = omega (arith, c.others-test.true, c.node_count-end.ensures.count) in
     let p = err_from_is_err_and c.from_residual.result c.from_residual.ensures.1 in
-    λ d H stands. rw p.1 (broken_off (c.others.invariant.said d H stands)
+    λ d H stands. rw p.1 (broken_off _ _ _ _ _ _ _ _ _ _ _ (c.others.invariant.said d H stands)
     (pairs_on (lab_in d c.args.world.now) H c.args.from c.others.to (length (nodes c.args.topology.now)) inside) _ p.0
     (c.in_err-write_pair.ensures.said d H stands))
 

@@ -16,7 +16,7 @@ nodes-preserved g c =
     let numbers = range_with_len 0 (length (nodes c.args.topology.now)) in
     let inside : c.nodes.from < length (nodes c.args.topology.now) = omega (arith, c.nodes-test.true, c.node_count-end.ensures.count) in
     record {
-      said = λ d H stands. some_more (c.nodes.invariant.said d H stands)
+      said = λ d H stands. some_more _ _ _ _ _ _ _ _ _ _ _ (c.nodes.invariant.said d H stands)
           (nodes_on (lab_in d c.args.world.now) H numbers c.nodes.from (length (nodes c.args.topology.now)) inside)
           (c.in_ok-write_from.ensures.said d H stands);
       few = c.in_ok-write_from.ensures.few;
@@ -27,7 +27,7 @@ returns-in_err-write_from g c =
     let numbers = range_with_len 0 (length (nodes c.args.topology.now)) in
     let inside : c.nodes.from < length (nodes c.args.topology.now) = omega (arith, c.nodes-test.true, c.node_count-end.ensures.count) in
     let p = err_from_is_err_and c.from_residual.result c.from_residual.ensures.1 in
-    λ d H stands. rw p.1 (broken_off (c.nodes.invariant.said d H stands)
+    λ d H stands. rw p.1 (broken_off _ _ _ _ _ _ _ _ _ _ _ (c.nodes.invariant.said d H stands)
     (nodes_on (lab_in d c.args.world.now) H numbers c.nodes.from (length (nodes c.args.topology.now)) inside) _ p.0
     (c.in_err-write_from.ensures.said d H stands))
 

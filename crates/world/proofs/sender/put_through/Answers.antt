@@ -22,7 +22,8 @@ loop-i-preserved c =
     let crosses : Crosses w (is_at_place c.loop-i.i w.fails) c.loop-i.nats c.cross_unless.new.nats x.to src =
     subst (λ (b : Bool). Crosses w b c.loop-i.nats c.cross_unless.new.nats x.to src) c.is_failing-failing.ensures
     (record { crosses = c.in_ok-egress.ensures.crosses; same = c.cross_unless.ensures.same; clock = c.cross_unless.ensures.clock }) in
-    one_through w c.args.wire.now c.args.nats.now c.args.step.now.sends c.loop-i.i x c.send.ensures.place src c.loop-i.invariant crosses
+    one_through w c.args.wire.now c.args.nats.now c.args.step.now.sends c.loop-i.i x c.send.ensures.place c.loop-i.wire c.send-in-loop-i.new.self
+    c.loop-i.nats c.cross_unless.new.nats c.loop-i.marks c.send-in-loop-i.new.marks src c.loop-i.invariant crosses
     (c.in_ok-send.ensures.puts x.side)
 
 pub returns-in_err-send-clause-puts : goal.returns-in_err-send-clause-puts
@@ -34,7 +35,8 @@ returns-in_err-send-clause-puts c =
     let crosses : Crosses w (is_at_place c.loop-i.i w.fails) c.loop-i.nats c.cross_unless.new.nats x.to src =
     subst (λ (b : Bool). Crosses w b c.loop-i.nats c.cross_unless.new.nats x.to src) c.is_failing-failing.ensures
     (record { crosses = c.in_ok-egress.ensures.crosses; same = c.cross_unless.ensures.same; clock = c.cross_unless.ensures.clock }) in
-    rw (p.1, p.2) (stops_through w c.args.wire.now c.args.nats.now c.args.step.now.sends c.loop-i.i x c.send.ensures.place src c.loop-i.invariant crosses
+    rw (p.1, p.2) (stops_through w c.args.wire.now c.args.nats.now c.args.step.now.sends c.loop-i.i x c.send.ensures.place c.loop-i.wire c.send-in-loop-i.new.self
+    c.loop-i.nats c.cross_unless.new.nats c.loop-i.marks c.send-in-loop-i.new.marks src c.in_err-send.field-0.0 c.loop-i.invariant crosses
     (c.in_err-send.ensures.puts x.side))
 
 pub returns-in_err-send-clause-same : goal.returns-in_err-send-clause-same
