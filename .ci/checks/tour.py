@@ -44,8 +44,9 @@ class Tour(Sights):
         self.begin()
         browser, count = self.browser, len(command.read(EXAMPLE + '.stdout').splitlines()) - 1
         browser.keep('light')
+        begun = browser.run('return state.at')
         keys(browser, 'ARROW_RIGHT', 'ARROW_RIGHT', 'ARROW_LEFT')
-        self.must(browser.run('return state.at') == 1, 'the arrow keys do not step')
+        self.must(browser.run('return state.at') == begun + 1, 'the arrow keys do not step')
         keys(browser, 'END')
         self.must(browser.run('return state.at') == count - 1, 'End does not lead to the last record')
         keys(browser, 'HOME')
