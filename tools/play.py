@@ -33,8 +33,8 @@ import trace
 import travel
 import wanted
 from ladder import Ladder
+from prompted import Session, shown
 from report import Report
-from session import Session, shown
 
 
 def report_of(session):

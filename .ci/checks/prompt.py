@@ -11,6 +11,7 @@ import time
 import command
 import completion
 import play
+import prompted
 from stored import TOP, names, path_of
 from toml_places import scenario_events
 
@@ -52,12 +53,12 @@ def check_play(program):
 
 def faults_of_all(program):
     """Two deliveries of an example, played by an `all` that may do one, and then by one that may do more."""
-    session, most = play.Session(program, path_of('cone_client')), play.NEXT_MAX
+    session, most = play.Session(program, path_of('cone_client')), prompted.NEXT_MAX
     session.undo()
     session.undo()
-    play.NEXT_MAX = 1
+    prompted.NEXT_MAX = 1
     first = play.answer(session, 'all')
-    play.NEXT_MAX = most
+    prompted.NEXT_MAX = most
     rest = play.answer(session, 'all')
     is_right = 'more may be left' in first[-1] and len(rest) == 1 and session.written == command.read(path_of('cone_client') + '.stdout')
     return [] if is_right else [f'all: {first}, and then {rest}']
