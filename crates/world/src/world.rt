@@ -232,6 +232,7 @@ impl<'a> World<'a> {
         ensures err { OnErr result ((self.new.topology ≡ self.old.topology) × (self.new.chain ≡ self.old.chain)
             × (self.new.wire ≡ self.old.wire) × (self.new.done ≡ self.old.done) × (self.new.armed ≡ self.old.armed)) }
     {
+        legal::of_its_event();
         let _ = &self.nodes;
         match event {
             Event::Advance { ms } => self.advance(*ms, out),
