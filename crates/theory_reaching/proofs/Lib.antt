@@ -11,6 +11,7 @@ mod strays
 mod from_native
 mod relays
 mod to_native
+mod NextPacket
 mod waiting
 mod EachWord
 pub mod LawProofs

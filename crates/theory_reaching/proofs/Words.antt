@@ -247,7 +247,7 @@ pub use Rattle.theory_reaching.specs.Reach.{reach_between}
 unfoldable pub use Rattle.theory_reaching.specs.Reach.{reach_of}
 pub use Rattle.theory_reaching.specs.Silent.{BarredSenderIsSilent, BarredSenderIsSilentIn, HandsIn, OffMakesNothing, OffMakesNothingIn}
 pub use Rattle.theory_reaching.specs.Speaks.{answers_at, is_from, way_to}
-unfoldable pub use Rattle.theory_reaching.specs.Speaks.{is_answered, speaks_to}
+unfoldable pub use Rattle.theory_reaching.specs.Speaks.{somebody_answers, speaks_to}
 pub use Rattle.theory_reaching.specs.ThroughRelay.{Relayed}
 unfoldable pub use Rattle.theory_reaching.specs.ThroughRelay.{relayed}
 pub use Rattle.theory_reaching.specs.ToNative.{to_native_lines, to_native_row}

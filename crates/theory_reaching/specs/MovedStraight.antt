@@ -20,7 +20,7 @@ use Rattle.theory_first_packets.specs.MayMeet.{known_by}
 use Rattle.theory_first_packets.specs.Schedules.{AreFresh}
 use Rattle.theory_reaching.specs.Conditions.{is_on}
 use Rattle.theory_reaching.specs.Promises.{IsSentNext, IsShut}
-use Rattle.theory_reaching.specs.Speaks.{speaks_to, is_answered}
+use Rattle.theory_reaching.specs.Speaks.{speaks_to, somebody_answers}
 
 -- of a client for a qualified one that is fresh at it or cone
 abbrev pub MovedBetweenClients : Type 0
@@ -43,7 +43,7 @@ abbrev pub GoneElsewhere : Type 0
 GoneElsewhere = (lab : Lab) (H : List Full) (q : Full) (later : List Full) (n m : ℕ) (c : ClientNode) (h : NativeNode) (D : Ep) (x : List ℕ)
     → IsTopology lab.topology → Grown lab (later ++ q ∷ H) → node_at lab.topology n ≡ Some (client c) → node_at lab.topology m ≡ Some (native h)
     → is_on lab H n c ≡ true → is_fresh (now H) (known_by H n h.six) ≡ true → is_trusted_at D (known_by H n h.six) ≡ true
-    → is_answered lab D ≡ false → IsSentNext lab H q n m (client c) x → AreFresh q later → IsShut m (native h) x later
+    → somebody_answers lab D ≡ false → IsSentNext lab H q n m (client c) x → AreFresh q later → IsShut m (native h) x later
 
 -- and of one for a native host that isn't fresh, where the client doesn't speak to its own server, which its test goes to
 abbrev pub MovedTests : Type 0

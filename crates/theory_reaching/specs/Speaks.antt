@@ -74,8 +74,8 @@ answers_at at (relay a) = is_at at (relay a)
 answers_at at _ = false
 
 -- some node of these does
-unfoldable pub is_answered : Lab → Ep → Bool
-is_answered lab at = list_any (answers_at at) (nodes lab.topology)
+unfoldable pub somebody_answers : Lab → Ep → Bool
+somebody_answers lab at = list_any (answers_at at) (nodes lab.topology)
 
 -- does the route end at a server?
 abbrev pub is_server_of : Route → Bool

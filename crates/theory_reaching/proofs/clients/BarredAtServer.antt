@@ -1,8 +1,8 @@
 -- A bubble for a receiver that is barred for its sender, at the receiver's server, which tells the receiver.
-use Rattle.theory_reaching.proofs.Words.{AllByRecursion, Arrival, Bool, Delivery, Full, Grown, HasNoFault, Ip6, Item, Journal, List, Made, MayTell, Node, Option, ServerNode, Some, address_at, and_right, ap, arrival, asks_at, at_same_moment, bubble_bytes, client, deliveries, embedded, false, false≢true, filter_map, is_teredo, item_in, journal, nats_of, no_server_address, no_server_second, node_at, not, not_from_true, other_journal, refl, same_ep, same_ep-self, server, server_ep, server_in, slice_get, still_in, subst, sym, to_server, true, udp, unwrap_or, wire, ℕ, ◌∙◌, ◌∷◌, ◌≡◌}
+use Rattle.theory_reaching.proofs.Words.{AllByRecursion, Arrival, Bool, Delivery, Full, HasNoFault, Ip6, Item, Journal, List, Made, MayTell, Node, Option, ServerNode, Some, address_at, and_right, ap, arrival, asks_at, at_same_moment, bubble_bytes, client, deliveries, embedded, false, false≢true, filter_map, is_teredo, item_in, journal, nats_of, no_server_address, no_server_second, node_at, not, not_from_true, other_journal, refl, same_ep, same_ep-self, server, server_ep, server_in, still_in, subst, sym, to_server, true, udp, unwrap_or, ℕ, ◌∙◌, ◌≡◌}
 use Rattle.theory_first_packets.proofs.tables.AtServer as at_server
 use Rattle.theory_reaching.proofs.clients.BothSettled.{Both, a_side, b_side, sender_end, receiver_end}
-use Rattle.theory_reaching.proofs.schedules.Throughout.{Goes}
+use Rattle.theory_reaching.proofs.schedules.Throughout.{Goes, OneDelivery}
 use Rattle.theory_reaching.proofs.schedules.WayStays as way_stays
 use Rattle.theory_reaching.proofs.clients.BarredThere as there
 use Rattle.theory_reaching.proofs.clients.BarredThere.{IsBarredThere, IsComing, told, IsMute}
@@ -30,13 +30,14 @@ module _ (the : Both) (there_barred : IsBarredThere the.lab the.H the.n the.m) w
 
   -- A DELIVERY
 
-  module _ (G : List Full) (p : Full) (k : ℕ) (y : Item) (g : Grown lab (p ∷ G)) (sound : HasNoFault p) (delivered : p.delivered ≡ Some k)
-      (at : slice_get (wire G) k ≡ Some y) (mute : IsMute the there_barred G) where
+  module _ (this : OneDelivery lab) (sound : HasNoFault this.p) (mute : IsMute the there_barred this.G) where
+    open this use {G, p, serial, y, g, delivered, at}
+
     abbrev Result : Type 0
     Result = Goes lab H q m (client d) x IsIt IsMuteAt G p
 
-    abbrev delivery : Delivery lab G p k
-    delivery = deliveries lab G p k g delivered
+    abbrev delivery : Delivery lab G p serial
+    delivery = deliveries lab G p serial g delivered
 
     module _ (is : y ≡ udp (embedded own) (server_ep (server_in other)) (bubble_bytes own other)) where
       may_tell : MayTell lab row own (embedded own)
@@ -60,7 +61,7 @@ module _ (the : Both) (there_barred : IsBarredThere the.lab the.H the.n the.m) w
           ap (λ z. udp (embedded own) (server_ep z) (bubble_bytes own other)) (end.address.of.server_is ∙ end.primary)
 
       came : Arrival lab G p d.server (server row) (udp (embedded own) (server_ep row.primary) (bubble_bytes own other))
-      came = arrival lab G p k delivery (record {
+      came = arrival lab G p serial delivery (record {
         number = d.server;
         node = server row;
         item = udp (embedded own) (server_ep row.primary) (bubble_bytes own other);

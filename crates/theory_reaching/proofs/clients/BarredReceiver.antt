@@ -3,7 +3,7 @@ use Rattle.theory_reaching.proofs.Words.{AllByRecursion, AreFresh, Comes, Delive
 use Rattle.legal.specs.Deliveries.{to_nobody}
 use Rattle.theory_reaching.proofs.clients.BothSettled.{Both, receiver_end, number}
 use Rattle.theory_reaching.proofs.clients.ShutOut.{missed_brings}
-use Rattle.theory_reaching.proofs.schedules.Throughout.{Goes, none_brings}
+use Rattle.theory_reaching.proofs.schedules.Throughout.{Goes, none_brings, OneDelivery}
 use Rattle.theory_reaching.proofs.clients.BarredThere as there
 use Rattle.theory_reaching.proofs.clients.BarredThere.{IsBarredThere, IsComing, asking, told, straight, IsMute}
 use Rattle.theory_reaching.proofs.clients.BarredAtServer as at_its_server
@@ -35,13 +35,14 @@ module _ (the : Both) (there_barred : IsBarredThere the.lab the.H the.n the.m) w
 
   -- A DELIVERY
 
-  module _ (G : List Full) (p : Full) (k : ℕ) (y : Item) (g : Grown lab (p ∷ G)) (sound : HasNoFault p) (delivered : p.delivered ≡ Some k)
-      (at : slice_get (wire G) k ≡ Some y) (mute : IsMute the there_barred G) where
+  module _ (this : OneDelivery lab) (sound : HasNoFault this.p) (mute : IsMute the there_barred this.G) where
+    open this use {G, p, serial, y, g, delivered, at}
+
     abbrev Result : Type 0
     Result = Goes lab H q m (client d) x IsIt IsMuteAt G p
 
-    abbrev delivery : Delivery lab G p k
-    delivery = deliveries lab G p k g delivered
+    abbrev delivery : Delivery lab G p serial
+    delivery = deliveries lab G p serial g delivered
 
     -- STRAIGHT
 
@@ -60,7 +61,7 @@ module _ (the : Both) (there_barred : IsBarredThere the.lab the.H the.n the.m) w
                 (sym (to_none lab are.rules G (embedded own) (embedded other) (bubble_bytes own other) j out)
                 ∙ ap (route lab G (now G)) (sym is) ∙ goes))
 
-      same_item : (u : Item) → slice_get (wire G) k ≡ Some u → u ≡ y
+      same_item : (u : Item) → slice_get (wire G) serial ≡ Some u → u ≡ y
       same_item u to = ap (λ (o : Option Item). unwrap_or o u) (sym to ∙ at)
 
       missed : (u : Item) → IsMissed lab G p u → Result
@@ -77,16 +78,16 @@ module _ (the : Both) (there_barred : IsBarredThere the.lab the.H the.n the.m) w
 
       goes_off : Result
       goes_off = by delivery where
-        by : Delivery lab G p k → Result
+        by : Delivery lab G p serial → Result
         by (to_node i a u to reached) = absurd (to_no_node i a (ap (route lab G (now G)) (sym (same_item u to)) ∙ reached.leads))
         by (to_nobody u to miss) = missed u miss
 
     step : IsIt y → Result
-    step (asking is) = at_its_server.passed_on the there_barred G p k y g sound delivered at mute is
-    step (told is) = barred_told.unanswered the there_barred G p k y g sound delivered at mute is
+    step (asking is) = at_its_server.passed_on the there_barred this sound mute is
+    step (told is) = barred_told.unanswered the there_barred this sound mute is
     step (straight led is) = goes_off led is
 
   -- so no delivery brings it
   pub none_come : (later : List Full) → Grown lab (later ++ q ∷ H) → AreFresh q later → SomeBrings m (client d) x later → ⊥
-  none_come = none_brings lab H q m (client d) x IsIt IsMuteAt (λ G p k y g sound delivered at is mute. step G p k y g sound delivered at mute is)
+  none_come = none_brings lab H q m (client d) x IsIt IsMuteAt (λ this sound is mute. step this sound mute is)
       (number the) (there.all_coming the there_barred) (there.at_first the there_barred)

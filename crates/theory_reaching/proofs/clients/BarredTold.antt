@@ -1,8 +1,8 @@
 -- A bubble that its server tells a receiver that is barred for the sender: the receiver doesn't answer it.
-use Rattle.theory_reaching.proofs.Words.{AllByRecursion, Arrival, Delivery, Entry, Ep, Full, Grown, HasNoFault, Ip4, Ip6, Item, Journal, List, Made, None, Option, ReadsPayload, Send, ServerNode, Some, Span, Value, WayIn, [], address_at, ap, armed, arrival, as_client, asks_at, at_same_moment, bubble_bytes, bubble_message, bubble_of, bubble_reads_back, bubble_small, by_way, client, client_in, client_settings, deliveries, embedded, enters_along, filter_map, forwarded, forwarded_reads_back, is_advert, is_from_server, is_let_in, item_in, journal, nats_of, now, option_and_then, or_left, part_of, refl, same_ep, same_ep-self, server_ep, slice_get, still_in, subst, sym, to_client, true, udp, value_written, way_out, wire, with_entry, words, ℕ, ◌∙◌, ◌∷◌, ◌≡◌}
+use Rattle.theory_reaching.proofs.Words.{AllByRecursion, Arrival, Delivery, Entry, Ep, Full, HasNoFault, Ip4, Ip6, Item, Journal, List, Made, None, Option, ReadsPayload, Send, ServerNode, Some, Span, Value, WayIn, [], address_at, ap, armed, arrival, as_client, asks_at, at_same_moment, bubble_bytes, bubble_message, bubble_of, bubble_reads_back, bubble_small, by_way, client, client_in, client_settings, deliveries, embedded, enters_along, filter_map, forwarded, forwarded_reads_back, is_advert, is_from_server, is_let_in, item_in, journal, nats_of, now, option_and_then, or_left, part_of, refl, same_ep, same_ep-self, server_ep, still_in, subst, sym, to_client, true, udp, value_written, way_out, with_entry, words, ℕ, ◌∙◌, ◌≡◌}
 use Rattle.theory_reaching.proofs.clients.BothSettled.{Both, sender_end, receiver_end}
 use Rattle.theory_reaching.proofs.entries.ClientDeaf.{IsDeaf, deaf}
-use Rattle.theory_reaching.proofs.schedules.Throughout.{Goes}
+use Rattle.theory_reaching.proofs.schedules.Throughout.{Goes, OneDelivery}
 use Rattle.theory_reaching.proofs.to_native.Unanswered.{brings_nothing}
 use Rattle.theory_reaching.proofs.schedules.WayStays as way_stays
 use Rattle.theory_reaching.proofs.clients.BarredThere as there
@@ -31,13 +31,14 @@ module _ (the : Both) (there_barred : IsBarredThere the.lab the.H the.n the.m) w
 
   -- A DELIVERY
 
-  module _ (G : List Full) (p : Full) (k : ℕ) (y : Item) (g : Grown lab (p ∷ G)) (sound : HasNoFault p) (delivered : p.delivered ≡ Some k)
-      (at : slice_get (wire G) k ≡ Some y) (mute : IsMute the there_barred G) where
+  module _ (this : OneDelivery lab) (sound : HasNoFault this.p) (mute : IsMute the there_barred this.G) where
+    open this use {G, p, serial, y, g, delivered, at}
+
     abbrev Result : Type 0
     Result = Goes lab H q m (client d) x IsIt IsMuteAt G p
 
-    abbrev delivery : Delivery lab G p k
-    delivery = deliveries lab G p k g delivered
+    abbrev delivery : Delivery lab G p serial
+    delivery = deliveries lab G p serial g delivered
 
     module _ (is : y ≡ udp (server_ep row.primary) (embedded other) (forwarded (Some (embedded own)) (bubble_bytes own other))) where
       abbrev z : List ℕ
@@ -51,7 +52,7 @@ module _ (the : Both) (there_barred : IsBarredThere the.lab the.H the.n the.m) w
           (ap server_ep (receiver_end the).primary) mute.way
 
       to_receiver : Arrival lab G p m (client d) (udp (server_ep row.primary) (embedded other) z)
-      to_receiver = arrival lab G p k delivery (record {
+      to_receiver = arrival lab G p serial delivery (record {
         number = m;
         node = client d;
         item = udp (server_ep row.primary) (embedded other) z;

@@ -1,8 +1,8 @@
 -- A delivery to a receiver that has no room for the sender: nothing comes of it, and there is no room afterwards.
-use Rattle.theory_reaching.proofs.Words.{AllByRecursion, Comes, Contains, Delivery, Entry, Ep, Full, GivesToHost, Grown, HasNoFault, Ip6, IsMissed, IsReached, Item, Journal, List, Node, None, Option, ReadsPayload, Send, Some, Span, Value, WayIn, [], address_at, ap, arith, armed, as_client, asks_at, at_same_moment, by_way, client, client_in, client_settings, comes_or_not, deliveries, embedded, enters_along, false, false≢true, filter_map, has_room, inl, inr, is_advert, is_from_server, is_let_in, is_reached, is_some, is_teredo, item_in, journal, leaves_nats, let_in_too, mentions, message_in, nats_of, node_at, now, option_and_then, part_of, route, same_end, shut_there, slice_get, still_in, subst, sym, to_client, to_node, to_none, udp, unwrap_or, way_out, wire, words, ℕ, ◌&&◌, ◌<◌, ◌∙◌, ◌∷◌, ◌≡◌, ◌⊎◌}
+use Rattle.theory_reaching.proofs.Words.{AllByRecursion, Comes, Contains, Delivery, Entry, Ep, Full, GivesToHost, HasNoFault, Ip6, IsMissed, IsReached, Item, Journal, List, Node, None, Option, ReadsPayload, Send, Some, Span, Value, WayIn, [], address_at, ap, arith, armed, as_client, asks_at, at_same_moment, by_way, client, client_in, client_settings, comes_or_not, deliveries, embedded, enters_along, false, false≢true, filter_map, has_room, inl, inr, is_advert, is_from_server, is_let_in, is_reached, is_some, is_teredo, item_in, journal, leaves_nats, let_in_too, mentions, message_in, nats_of, node_at, now, option_and_then, part_of, route, same_end, shut_there, slice_get, still_in, subst, sym, to_client, to_node, to_none, udp, unwrap_or, way_out, wire, words, ℕ, ◌&&◌, ◌<◌, ◌∙◌, ◌∷◌, ◌≡◌, ◌⊎◌}
 use Rattle.legal.specs.Deliveries.{to_nobody}
 use Rattle.theory_reaching.proofs.clients.ShutOut.{missed_brings}
-use Rattle.theory_reaching.proofs.schedules.Throughout.{Goes}
+use Rattle.theory_reaching.proofs.schedules.Throughout.{Goes, OneDelivery}
 use Rattle.theory_reaching.proofs.clients.Unheard.{HearsNothing, hears_nothing}
 use Rattle.theory_reaching.proofs.clients.FullReceiver.{IsComing}
 use Rattle.theory_reaching.proofs.clients.BothSettled.{Both, sender_end, next, receiver_stays, server_way_then}
@@ -36,19 +36,20 @@ module _ (the : Both) (room : has_room (mentions (journal the.m the.H).entries) 
 
   -- A DELIVERY
 
-  module _ (G : List Full) (p : Full) (k : ℕ) (y : Item) (g : Grown lab (p ∷ G)) (sound : HasNoFault p) (delivered : p.delivered ≡ Some k)
-      (at : slice_get (wire G) k ≡ Some y) (full : IsFull G) where
+  module _ (this : OneDelivery lab) (sound : HasNoFault this.p) (full : IsFull this.G) where
+    open this use {G, p, serial, y, g, delivered, at}
+
     abbrev pub Result : Type 0
     Result = Goes lab H q m (client d) x IsIt IsFull G p
 
-    abbrev pub delivery : Delivery lab G p k
-    delivery = deliveries lab G p k g delivered
+    abbrev pub delivery : Delivery lab G p serial
+    delivery = deliveries lab G p serial g delivered
 
     -- after a record at the same moment, with this journal
     pub stays : (j : Journal) → p.moment ≡ now G → journal m (p ∷ G) ≡ j → has_room (mentions j.entries) (now G) own ≡ false → IsFull (p ∷ G)
     stays j moment same none = record {
       full = at_same_moment (λ (i : Journal) (t : ℕ). has_room (mentions i.entries) t own ≡ false) G p m j moment same none;
-      way = still_in lab G p (record { follows = g.0; calm = leaves_nats lab G p k delivery; moment = moment }) (asks_at lab d) (nats_of lab d)
+      way = still_in lab G p (record { follows = g.0; calm = leaves_nats lab G p serial delivery; moment = moment }) (asks_at lab d) (nats_of lab d)
           d.inside (embedded other) full.way;
     }
 
@@ -59,7 +60,7 @@ module _ (the : Both) (room : has_room (mentions (journal the.m the.H).entries) 
       silent = missed_brings lab G p z m x miss;
     }
 
-    same_item : (z : Item) → slice_get (wire G) k ≡ Some z → z ≡ y
+    same_item : (z : Item) → slice_get (wire G) serial ≡ Some z → z ≡ y
     same_item z to = ap (λ (o : Option Item). unwrap_or o z) (sym to ∙ at)
 
     -- AT THE RECEIVER
@@ -116,6 +117,6 @@ module _ (the : Both) (room : has_room (mentions (journal the.m the.H).entries) 
 
       pub comes : Result
       comes = by delivery where
-        by : Delivery lab G p k → Result
+        by : Delivery lab G p serial → Result
         by (to_node i a u to reached) = to_receiver i a u (same_item u to) reached
         by (to_nobody u to miss) = missed u miss

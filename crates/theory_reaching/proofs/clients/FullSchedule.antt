@@ -1,7 +1,7 @@
 -- A fresh schedule after a packet for a receiver that has no room for the sender: no delivery hands it over.
-use Rattle.theory_reaching.proofs.Words.{AllByRecursion, AreFresh, Arrival, Bool, Delivery, Full, Grown, HasNoFault, Ip6, Item, List, Made, MayTell, Node, None, Option, ServerNode, Some, SomeBrings, address_at, and_right, ap, arrival, bubble_bytes, bubble_of, bubble_reads_back, bubble_small, client, deliveries, embedded, false, false≢true, filter_map, forwarded, forwarded_reads_back, has_room, is_teredo, item_in, journal, mentions, no_server_address, no_server_second, node_at, not, not_from_true, now, other_journal, refl, same_ep, same_ep-self, server, server_ep, server_in, slice_get, subst, sym, to_server, true, udp, unwrap_or, value_written, wire, ℕ, ◌++◌, ◌∙◌, ◌∷◌, ◌≡◌}
+use Rattle.theory_reaching.proofs.Words.{AllByRecursion, AreFresh, Arrival, Bool, Delivery, Full, Grown, HasNoFault, Ip6, Item, List, Made, MayTell, Node, None, Option, ServerNode, Some, SomeBrings, address_at, and_right, ap, arrival, bubble_bytes, bubble_of, bubble_reads_back, bubble_small, client, deliveries, embedded, false, false≢true, filter_map, forwarded, forwarded_reads_back, has_room, is_teredo, item_in, journal, mentions, no_server_address, no_server_second, node_at, not, not_from_true, now, other_journal, refl, same_ep, same_ep-self, server, server_ep, server_in, subst, sym, to_server, true, udp, unwrap_or, value_written, ℕ, ◌++◌, ◌∙◌, ◌∷◌, ◌≡◌}
 use Rattle.theory_first_packets.proofs.tables.AtServer as at_server
-use Rattle.theory_reaching.proofs.schedules.Throughout.{Goes, none_brings}
+use Rattle.theory_reaching.proofs.schedules.Throughout.{Goes, none_brings, OneDelivery}
 use Rattle.theory_reaching.proofs.clients.FullReceiver.{IsComing, coming, asking, no_advert, all_coming}
 use Rattle.theory_reaching.proofs.clients.BothSettled.{Both, a_side, b_side, sender_end, receiver_end, number}
 use Rattle.theory_reaching.proofs.clients.FullAtReceiver.{IsFull, at_first, stays, comes}
@@ -18,13 +18,14 @@ module _ (the : Both) (room : has_room (mentions (journal the.m the.H).entries) 
   abbrev IsIt : Item → Type 0
   IsIt = IsComing the
 
-  module _ (G : List Full) (p : Full) (k : ℕ) (y : Item) (g : Grown lab (p ∷ G)) (sound : HasNoFault p) (delivered : p.delivered ≡ Some k)
-      (at : slice_get (wire G) k ≡ Some y) (full : IsFull the room G) where
+  module _ (this : OneDelivery lab) (sound : HasNoFault this.p) (full : IsFull the room this.G) where
+    open this use {G, p, serial, y, g, delivered, at}
+
     abbrev Result : Type 0
     Result = Goes lab H q m (client d) x IsIt (IsFull the room) G p
 
-    abbrev delivery : Delivery lab G p k
-    delivery = deliveries lab G p k g delivered
+    abbrev delivery : Delivery lab G p serial
+    delivery = deliveries lab G p serial g delivered
 
     -- AT ITS SERVER
 
@@ -53,7 +54,7 @@ module _ (the : Both) (room : has_room (mentions (journal the.m the.H).entries) 
           ap (λ z. udp (embedded own) (server_ep z) (bubble_bytes own other)) (end.address.of.server_is ∙ end.primary)
 
       came : Arrival lab G p d.server (server row) (udp (embedded own) (server_ep row.primary) (bubble_bytes own other))
-      came = arrival lab G p k delivery (record {
+      came = arrival lab G p serial delivery (record {
         number = d.server;
         node = server row;
         item = udp (embedded own) (server_ep row.primary) (bubble_bytes own other);
@@ -88,17 +89,17 @@ module _ (the : Both) (room : has_room (mentions (journal the.m the.H).entries) 
                   refl (no_advert the (server_ep row.primary)),
               tt,
             );
-            stays = stays the room G p k y g sound delivered at full (journal m G) came.did.moment
+            stays = stays the room this sound full (journal m G) came.did.moment
                 (other_journal lab G p d.server m came.did.node no_client) full.full;
             silent = λ b. no_client (ap (λ (o : Option ℕ). unwrap_or o d.server) (sym came.did.node ∙ b.node));
           }
 
     step : IsIt y → Result
-    step (coming src z v is reads source none) = comes the room G p k y g sound delivered at full src z v is reads source none
+    step (coming src z v is reads source none) = comes the room this sound full src z v is reads source none
     step (asking is) = passed_on is
 
   -- so no delivery brings it
   pub none_come : (later : List Full) → Grown lab (later ++ q ∷ H) → AreFresh q later → SomeBrings m (client d) x later → ⊥
   none_come = none_brings lab H q m (client d) x IsIt (IsFull the room)
-      (λ G p k y g sound delivered at is full. step G p k y g sound delivered at full is)
+      (λ this sound is full. step this sound full is)
       (number the) (all_coming the) (at_first the room)

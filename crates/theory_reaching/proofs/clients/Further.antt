@@ -15,8 +15,20 @@ pub record Further (lab : Lab) (H : List Full) (r : Full) (later : List Full) : 
   pub grown : Grown lab (next ∷ later ++ r ∷ H)
   pub fresh : AreFresh r (next ∷ later)
 
-module _ (lab : Lab) (H : List Full) (r : Full) (n : ℕ) (c : ClientNode) (x : List ℕ) (taken : Handing lab H r n (client c) x)
-    (grown : Grown lab (r ∷ H)) where
+-- in the record r after H the host of node n, which is the client c, hands in x
+pub record Handed : Type 0 where
+  pub lab : Lab
+  pub H : List Full
+  pub r : Full
+  pub n : ℕ
+  pub c : ClientNode
+  pub x : List ℕ
+  pub taken : Handing lab H r n (client c) x
+  pub grown : Grown lab (r ∷ H)
+
+module _ (the : Handed) where
+  open the use {lab, H, r, n, c, x, taken, grown}
+
   abbrev e : Entry
   e = entry_of lab H (now H) n no_ep (given x) (client c)
 

@@ -1,6 +1,6 @@
 -- `one_nat`: what comes from a NAT's address goes to another one, so a packet of a client behind the receiver's outermost NAT doesn't
 -- come, whoever spoke for others before.
-use Rattle.theory_reaching.proofs.Words.{All-contains, All-from_recursion, AllByRecursion, AreFresh, ClientNode, Contains, Delivers, EntersPast, Ep, Event, Full, GivesToHost, GoesElsewhere, Grown, Hands, Ip6, IsBrought, IsChained, IsLetIn, IsSentNext, IsSettledAlong, IsTopology, Item, KeepsBetweenClients, Lab, List, Option, Reach, Some, SomeBrings, TwoClients, Verb, [], address_at, and_parts, ap, as_client, asked_for, asks_at, between_clients_lines, between_clients_row, by_lines, client, client_at, client_settings, embedded, enters_by_its_way, eqb-true, false, false≢true, fields_in, first_is, host_hands, inl, inr, is_brought, is_settled, is_teredo, items_of, journal, last_nat, late_is_foreign, nat_of, node_at, now, option_and_then, outer_nats_of, outermost, own_is_teredo, refl, slice_get, subst, sym, true, two_clients, udp, unwrap_or, wire, ℕ, ◌++◌, ◌∙◌, ◌∷◌, ◌≡◌, ◌⊎◌}
+use Rattle.theory_reaching.proofs.Words.{All-contains, All-from_recursion, AllByRecursion, ClientNode, Contains, Delivers, EntersPast, Ep, Event, Full, GivesToHost, GoesElsewhere, Grown, Hands, Ip6, IsBrought, IsLetIn, IsSettledAlong, Item, KeepsBetweenClients, Lab, List, Option, Reach, Some, SomeBrings, TwoClients, Verb, [], address_at, and_parts, ap, as_client, asked_for, asks_at, between_clients_lines, between_clients_row, by_lines, client, client_at, client_settings, embedded, enters_by_its_way, eqb-true, false, false≢true, fields_in, first_is, host_hands, inl, inr, is_brought, is_settled, is_teredo, items_of, journal, last_nat, late_is_foreign, nat_of, now, option_and_then, outer_nats_of, outermost, own_is_teredo, refl, slice_get, subst, sym, true, two_clients, udp, unwrap_or, wire, ℕ, ◌∙◌, ◌∷◌, ◌≡◌, ◌⊎◌}
 use Rattle.events.specs.declared.event.Event.TheVariants as event
 use Rattle.theory_settled.proofs.Earlier.{earlier}
 use Rattle.theory_reaching.specs.declared.word.Reach.TheVariants as word
@@ -8,9 +8,10 @@ use Rattle.theory_reaching.proofs.Tests.{elsewhere, held}
 use Rattle.theory_reaching.proofs.WordTests.{is_one_nat}
 use Rattle.theory_reaching.proofs.clients.GoesOn.{is_delivery}
 use Rattle.theory_reaching.proofs.strays.LeavesElsewhere.{is_put, all_elsewhere}
-use Rattle.theory_reaching.proofs.schedules.Throughout.{Goes, none_brings}
+use Rattle.theory_reaching.proofs.schedules.Throughout.{Goes, none_brings, OneDelivery}
 use Rattle.theory_reaching.proofs.clients.SettledClients.{settled_along}
 use Rattle.theory_reaching.proofs.Pairs.{of_clients}
+use Rattle.theory_reaching.proofs.NextPacket.{NextPacket}
 
 -- WHAT THE LINES SAY
 
@@ -69,9 +70,10 @@ last_address : (lab : Lab) (H : List Full) (m : ℕ) (src : Ep) (k : ℕ) (way :
 last_address lab H m src k [] inside dst w = subst (λ (e : Ep). e.ip ≡ (nat_of lab k).external) w.3 w.1
 last_address lab H m src k (j ∷ way) inside dst w = last_address lab H m src j way w.0 dst w.3
 
-module _ (lab : Lab) (H : List Full) (q : Full) (n m : ℕ) (c d : ClientNode) (x : List ℕ) (is : IsTopology lab.topology)
-    (chained : IsChained lab) (at : node_at lab.topology n ≡ Some (client c)) (to : node_at lab.topology m ≡ Some (client d))
-    (sent : IsSentNext lab H q n m (client c) x) (settled : IsSettledAlong lab H n c (address_at lab H n)) (same : outermost lab c ≡ outermost lab d) where
+module _ (c d : ClientNode) (the : NextPacket (client c) (client d)) (settled : IsSettledAlong the.lab the.H the.n c (address_at the.lab the.H the.n))
+    (same : outermost the.lab c ≡ outermost the.lab d) where
+  open the use {lab, H, is, chained, q, later, n, m, x, to, sent}
+
   abbrev own : Ip6
   own = address_at lab H n
 
@@ -96,17 +98,18 @@ module _ (lab : Lab) (H : List Full) (q : Full) (n m : ℕ) (c d : ClientNode) (
   abbrev Anything : List Full → Type 0
   Anything G = Unit {0}
 
-  module _ (G : List Full) (p : Full) (k : ℕ) (y : Item) (g : Grown lab (p ∷ G)) (delivered : p.delivered ≡ Some k)
-      (on_wire : slice_get (wire G) k ≡ Some y) (goes : GoesElsewhere lab y) where
+  module _ (this : OneDelivery lab) (goes : GoesElsewhere lab this.y) where
+    open this use {G, p, serial, y, g, delivered, at}
+
     there : client_at lab.topology m ≡ Some d
     there = ap (option_and_then as_client) to
 
     -- what brings the packet would go back to where it comes from
     comes_back : IsBrought lab G p d x → ⊥
     comes_back b =
-        let number : b.number ≡ k = ap (λ (o : Option ℕ). unwrap_or o b.number) (sym b.delivered ∙ delivered) in
+        let number : b.number ≡ serial = ap (λ (o : Option ℕ). unwrap_or o b.number) (sym b.delivered ∙ delivered) in
         let item : y ≡ udp b.src b.dst b.bytes =
-        ap (λ (o : Option Item). unwrap_or o y) (sym on_wire ∙ ap (λ (i : ℕ). slice_get (wire G) i) (sym number) ∙ b.datagram) in
+        ap (λ (o : Option Item). unwrap_or o y) (sym at ∙ ap (λ (i : ℕ). slice_get (wire G) i) (sym number) ∙ b.datagram) in
         let one : GoesElsewhere lab (udp b.src b.dst b.bytes) = subst (GoesElsewhere lab) item goes in
         let back : b.src.ip ≡ b.dst.ip =
         ap (λ (e : Ep). e.ip) (b.embeds teredo) ∙ ap (λ (z : Ip6). (embedded z).ip) sent.handed.packet.source ∙ external
@@ -122,24 +125,23 @@ module _ (lab : Lab) (H : List Full) (q : Full) (n m : ℕ) (c d : ClientNode) (
 
     step : Goes lab H q m (client d) x (GoesElsewhere lab) Anything G p
     step = record {
-      made = all_elsewhere lab G p (delivery_puts_none G p.asked k (is_delivery G p k (asked_for lab G p g.0) delivered).asked)
-          is g;
+      made = all_elsewhere lab G p (delivery_puts_none G p.asked serial (is_delivery G p serial (asked_for lab G p g.0) delivered).asked) is g;
       stays = tt;
       silent = silent;
     }
 
   first_made : Grown lab (q ∷ H) → AllByRecursion (GoesElsewhere lab) (items_of q)
   first_made g =
-      let taken = host_hands lab H q n (client c) own (address_at lab H m) x at g.0 sent.handed in
+      let taken = host_hands lab H q n (client c) own (address_at lab H m) x the.at g.0 sent.handed in
       all_elsewhere lab H q (host_puts_none lab H q.asked taken.verb n x taken.hands) is g
 
   -- so no delivery brings it
-  none_come : (later : List Full) → Grown lab (later ++ q ∷ H) → AreFresh q later → SomeBrings m (client d) x later → ⊥
-  none_come later g =
-      let grown : Grown lab (q ∷ H) = earlier lab later (q ∷ H) g in
+  none_come : SomeBrings m (client d) x later → ⊥
+  none_come =
+      let grown : Grown lab (q ∷ H) = earlier lab later (q ∷ H) the.g in
       none_brings lab H q m (client d) x (GoesElsewhere lab) Anything
-      (λ G p k y so sound delivered on_wire goes any. step G p k y so delivered on_wire goes)
-      (first_is lab H q grown) (first_made grown) tt later g
+      (λ this sound goes any. step this goes)
+      (first_is lab H q grown) (first_made grown) tt later the.g the.fresh
 
 pub one_nat_is_kept : KeepsBetweenClients word.OneNat
 unfolding two_clients
@@ -148,5 +150,19 @@ one_nat_is_kept lab H is chained q later n m c d x g at to said sent fresh =
       two : AreNeighbours (two_clients lab H n m c d) → SomeBrings m (client d) x later → ⊥
       two are =
           let both = and_parts (is_settled lab H n c) (is_settled lab H m d) are.settled in
-          none_come lab H q n m c d x is chained at to sent (settled_along lab H n c at both.0)
-          (eqb-true (outermost lab c) (outermost lab d) are.one_nat) later g fresh
+          none_come c d (record {
+            lab = lab;
+            H = H;
+            is = is;
+            chained = chained;
+            q = q;
+            later = later;
+            n = n;
+            m = m;
+            x = x;
+            g = g;
+            at = at;
+            to = to;
+            sent = sent;
+            fresh = fresh;
+          }) (settled_along lab H n c at both.0) (eqb-true (outermost lab c) (outermost lab d) are.one_nat)

@@ -3,7 +3,7 @@ use Rattle.theory_reaching.proofs.Words.{AllByRecursion, AreFresh, Comes, Contai
 use Rattle.legal.specs.Deliveries.{to_nobody}
 use Rattle.theory_reaching.proofs.schedules.ApartWays.{WaysApart, all_stay, entered_before}
 use Rattle.theory_reaching.proofs.clients.Straight.{items_one}
-use Rattle.theory_reaching.proofs.schedules.Throughout.{Goes, none_brings}
+use Rattle.theory_reaching.proofs.schedules.Throughout.{Goes, none_brings, OneDelivery}
 use Rattle.theory_reaching.proofs.clients.BothSettled.{Both, differ, sender_end, receiver_end, did, number, next, server_way_then}
 
 -- a record that comes to nobody brings nothing
@@ -71,8 +71,9 @@ module _ (the : Both)
   abbrev IsIt : Item → Type 0
   IsIt y = y ≡ udp (embedded own) (embedded other) x
 
-  module _ (G : List Full) (p : Full) (k : ℕ) (y : Item) (g : Grown lab (p ∷ G)) (delivered : p.delivered ≡ Some k)
-      (at : slice_get (wire G) k ≡ Some y) (is : IsIt y) (shut : IsShutOff G) where
+  module _ (this : OneDelivery lab) (is : IsIt this.y) (shut : IsShutOff this.G) where
+    open this use {G, p, serial, y, g, delivered, at}
+
     abbrev Result : Type 0
     Result = Goes lab H q m (client d) x IsIt IsShutOff G p
 
@@ -89,7 +90,7 @@ module _ (the : Both)
           by (shut_there j out) = false≢true (ap is_reached (sym (to_none lab are.rules G (embedded own) (embedded other) x j out)
               ∙ ap (route lab G (now G)) (sym is) ∙ goes))
 
-    same_item : (z : Item) → slice_get (wire G) k ≡ Some z → z ≡ y
+    same_item : (z : Item) → slice_get (wire G) serial ≡ Some z → z ≡ y
     same_item z to = ap (λ (o : Option Item). unwrap_or o z) (sym to ∙ at)
 
     missed : (z : Item) → IsMissed lab G p z → Result
@@ -108,13 +109,13 @@ module _ (the : Both)
     }
 
     goes_off : Result
-    goes_off = by (deliveries lab G p k g delivered) where
-      by : Delivery lab G p k → Result
+    goes_off = by (deliveries lab G p serial g delivered) where
+      by : Delivery lab G p serial → Result
       by (to_node i a z to reached) = absurd (to_no_node i a (ap (route lab G (now G)) (sym (same_item z to)) ∙ reached.leads))
       by (to_nobody z to miss) = missed z miss
 
   -- so no delivery brings it
   pub none_come : (later : List Full) → Grown lab (later ++ q ∷ H) → AreFresh q later → SomeBrings m (client d) x later → ⊥
-  none_come = none_brings lab H q m (client d) x IsIt IsShutOff (λ G p k y g sound delivered at is shut. goes_off G p k y g delivered at is shut)
+  none_come = none_brings lab H q m (client d) x IsIt IsShutOff (λ this sound is shut. goes_off this is shut)
       (number the)
       (subst (AllByRecursion IsIt) (sym (items_one the quick)) (refl, tt)) at_first

@@ -1,5 +1,5 @@
 -- `within 4` and `within 5`: the packet comes with a complete schedule, and one with so many deliveries is complete.
-use Rattle.theory_reaching.proofs.Words.{AreFresh, Arrives, BringsWithin, ClientNode, ComesInTime, Full, GetsThrough, GivesToHost, Grown, HasArrived, IsChained, IsComplete, IsNameable, IsSentNext, IsTopology, KeepsItsPromise, Lab, List, Node, Relayed, Some, SomeBrings, TwoClients, [], address_at, ap, arith, between_clients_lines, between_clients_row, client, false, from_native_lines, from_native_row, host_hands, inl, inr, length, next_packet_arrives_along, node_at, refl, relayed, some_so, subst, suc, sym, to_native_lines, to_native_row, true, two_clients, was_delivered, wire, ℕ, ◌++◌, ◌+◌, ◌-◌, ◌<◌, ◌∙◌, ◌∷◌, ◌≡◌, ◌≤◌, ◌⊎◌}
+use Rattle.theory_reaching.proofs.Words.{AreFresh, Arrives, BringsWithin, ClientNode, ComesInTime, Full, GetsThrough, GivesToHost, Grown, HasArrived, IsComplete, IsNameable, KeepsItsPromise, List, Node, Relayed, SomeBrings, TwoClients, [], address_at, ap, arith, between_clients_lines, between_clients_row, client, false, from_native_lines, from_native_row, host_hands, inl, inr, length, next_packet_arrives_along, refl, relayed, some_so, subst, suc, sym, to_native_lines, to_native_row, true, two_clients, was_delivered, wire, ℕ, ◌++◌, ◌+◌, ◌-◌, ◌<◌, ◌∷◌, ◌≡◌, ◌≤◌, ◌⊎◌}
 use Rattle.theory_settled.proofs.Earlier.{earlier}
 use Rattle.theory_reaching.specs.declared.word.Reach.TheVariants as word
 use Rattle.theory_reaching.proofs.Lines.{which_held, that_one}
@@ -8,6 +8,7 @@ use Rattle.theory_reaching.proofs.schedules.Undelivered.{all_or_one}
 use Rattle.theory_reaching.proofs.from_native.FromNativesInTime as from_host
 use Rattle.theory_reaching.proofs.clients.Further.{goes_on}
 use Rattle.theory_reaching.proofs.clients.MayMeetByWord.{is_four, is_late, passes, may_meet}
+use Rattle.theory_reaching.proofs.NextPacket.{NextPacket, of_nodes}
 
 -- WHAT THE LINES SAY
 
@@ -40,16 +41,15 @@ left_or_complete H q later = by (all_or_one later q.first (length (wire (later +
   by (inr one) = let a : q.first ≤ one.0 = one.1 in let b : one.0 < q.first + (length (wire (later ++ q ∷ H)) - q.first) = one.2 in
       inr (one.0, one.1, omega (arith, a, b), one.3)
 
--- node n is the client c, and node m the client d
-module _ (lab : Lab) (H : List Full) (q : Full) (n m : ℕ) (c d : ClientNode) (x : List ℕ) where
+module _ (c d : ClientNode) (the : NextPacket (client c) (client d)) where
+  open the use {lab, H, is, chained, q, later, n, m, x, g, at, to, sent, fresh}
+
   -- so many deliveries are the most, and a complete schedule brings the packet
   abbrev GoesWell : ℕ → Type 0
-  GoesWell most = (later : List Full) → Grown lab (later ++ q ∷ H) → AreFresh q later
-      → (length later ≤ most) × (IsComplete H q later → HasArrived m x later)
+  GoesWell most = (l : List Full) → Grown lab (l ++ q ∷ H) → AreFresh q l → (length l ≤ most) × (IsComplete H q l → HasArrived m x l)
 
-  in_time : (most : ℕ) → GoesWell most → node_at lab.topology n ≡ Some (client c) → IsSentNext lab H q n m (client c) x
-      → (later : List Full) → Grown lab (later ++ q ∷ H) → AreFresh q later → ComesInTime H q m (client d) x later most
-  in_time most well at sent later g fresh = record { whole = whole; enough = λ short many. by short many (left_or_complete H q later) } where
+  in_time : (most : ℕ) → GoesWell most → ComesInTime H q m (client d) x later most
+  in_time most well = record { whole = whole; enough = λ short many. by short many (left_or_complete H q later) } where
     there : Grown lab (q ∷ H)
     there = earlier lab later (q ∷ H) g
 
@@ -71,57 +71,46 @@ module _ (lab : Lab) (H : List Full) (q : Full) (n m : ℕ) (c d : ClientNode) (
     by short many (inl complete) = whole complete
     by short many (inr one) =
         let taken = host_hands lab H q n (client c) (address_at lab H n) (address_at lab H m) x at there.0 sent.handed in
-        let on = goes_on lab H q n c x taken there later g fresh short one.0 one.1 one.2 one.3 in
+        let on = goes_on (record { lab = lab; H = H; r = q; n = n; c = c; x = x; taken = taken; grown = there }) later g fresh
+        short one.0 one.1 one.2 one.3 in
         absurd (too_many (length later) (well (on.next ∷ later) on.grown on.fresh).0 many)
 
--- THE WORDS
+  -- THE WORDS
 
-module _ (lab : Lab) (H : List Full) (q : Full) (n m : ℕ) (a b : Node) (x : List ℕ) (is : IsTopology lab.topology) (chained : IsChained lab)
-    (at : node_at lab.topology n ≡ Some a) (to : node_at lab.topology m ≡ Some b) (sent : IsSentNext lab H q n m a x) where
-  module _ (c d : ClientNode) (same : a ≡ client c) (other : b ≡ client d) where
-    client_at_n : node_at lab.topology n ≡ Some (client c)
-    client_at_n = at ∙ ap (λ (z : Node). Some z) same
+  -- it is carried as any packet between clients that may meet
+  carried : is_late (between_clients_row (two_clients lab H n m c d)) ≡ true → (l : List Full) → Grown lab (l ++ q ∷ H) → AreFresh q l
+      → GetsThrough H q m (address_at lab H n) (address_at lab H m) x l
+  carried late l grown new =
+      next_packet_arrives_along lab H q l is chained grown n m c d (address_at lab H n) (address_at lab H m) x
+      (record { clients = may_meet lab H n m c d at to (passes (two_clients lab H n m c d) late); handed = sent.handed }) new
 
-    client_at_m : node_at lab.topology m ≡ Some (client d)
-    client_at_m = to ∙ ap (λ (z : Node). Some z) other
+  four : between_clients_row (two_clients lab H n m c d) ≡ word.Within4 → ComesInTime H q m (client d) x later 4
+  unfolding two_clients
+  four e = in_time 4 (λ l grown f. (
+    (carried (ap is_late e) l grown f).few_from_cone (four_from_cone (two_clients lab H n m c d) (ap is_four e)),
+    (carried (ap is_late e) l grown f).arrives,
+  ))
 
-    is_sent : IsSentNext lab H q n m (client c) x
-    is_sent = subst (λ (z : Node). IsSentNext lab H q n m z x) same sent
-
-    -- it is carried as any packet between clients that may meet
-    carried : is_late (between_clients_row (two_clients lab H n m c d)) ≡ true → (later : List Full) → Grown lab (later ++ q ∷ H) → AreFresh q later
-        → GetsThrough H q m (address_at lab H n) (address_at lab H m) x later
-    carried late later g fresh =
-        next_packet_arrives_along lab H q later is chained g n m c d (address_at lab H n) (address_at lab H m) x
-        (record { clients = may_meet lab H n m c d client_at_n client_at_m (passes (two_clients lab H n m c d) late); handed = sent.handed }) fresh
-
-    four : between_clients_row (two_clients lab H n m c d) ≡ word.Within4 → (later : List Full) → Grown lab (later ++ q ∷ H) → AreFresh q later
-        → ComesInTime H q m b x later 4
-    unfolding two_clients
-    four e later g fresh = subst (λ (z : Node). ComesInTime H q m z x later 4) (sym other)
-        (in_time lab H q n m c d x 4 (λ l grown f. (
-          (carried (ap is_late e) l grown f).few_from_cone (four_from_cone (two_clients lab H n m c d) (ap is_four e)),
-          (carried (ap is_late e) l grown f).arrives,
-        )) client_at_n is_sent later g fresh)
-
-    five : between_clients_row (two_clients lab H n m c d) ≡ word.Within5 → (later : List Full) → Grown lab (later ++ q ∷ H) → AreFresh q later
-        → ComesInTime H q m b x later 5
-    five e later g fresh = subst (λ (z : Node). ComesInTime H q m z x later 5) (sym other)
-        (in_time lab H q n m c d x 5 (λ l grown f. ((carried (ap is_late e) l grown f).few, (carried (ap is_late e) l grown f).arrives))
-        client_at_n is_sent later g fresh)
+  five : between_clients_row (two_clients lab H n m c d) ≡ word.Within5 → ComesInTime H q m (client d) x later 5
+  five e = in_time 5 (λ l grown f. ((carried (ap is_late e) l grown f).few, (carried (ap is_late e) l grown f).arrives))
 
 pub four_is_kept : KeepsItsPromise word.Within4
 four_is_kept lab H is chained q later n m a b x g at to said sent fresh = by (said_by lab H n m word.Within4 a b at to said) where
+  the : NextPacket a b
+  the = record { lab = lab; H = H; is = is; chained = chained; q = q; later = later; n = n; m = m; x = x; g = g; at = at; to = to; sent = sent; fresh = fresh }
+
   by : SaidBy lab H n m a b word.Within4 → ComesInTime H q m b x later 4
-  by (between_clients c d same other e) = four lab H q n m a b x is chained at to sent c d same other e later g fresh
+  by (between_clients c d same other e) = subst (λ (z : Node). ComesInTime H q m z x later 4) (sym other) (four c d (of_nodes the same other) e)
   by (to_native c h r same other through e) = absurd (never_to (relayed lab H n c h r) (ap is_late e))
   by (from_native h c r same other through e) = absurd (never_from (relayed lab H m c h r) (ap is_four e))
 
 pub five_is_kept : KeepsItsPromise word.Within5
 five_is_kept lab H is chained q later n m a b x g at to said sent fresh = by (said_by lab H n m word.Within5 a b at to said) where
+  the : NextPacket a b
+  the = record { lab = lab; H = H; is = is; chained = chained; q = q; later = later; n = n; m = m; x = x; g = g; at = at; to = to; sent = sent; fresh = fresh }
+
   by : SaidBy lab H n m a b word.Within5 → ComesInTime H q m b x later 5
-  by (between_clients c d same other e) = five lab H q n m a b x is chained at to sent c d same other e later g fresh
+  by (between_clients c d same other e) = subst (λ (z : Node). ComesInTime H q m z x later 5) (sym other) (five c d (of_nodes the same other) e)
   by (to_native c h r same other through e) = absurd (never_to (relayed lab H n c h r) (ap is_late e))
   by (from_native h c r same other through e) = subst (λ (z : Node). ComesInTime H q m z x later 5) (sym other)
-      (from_host.five lab H is chained q later n m h c x g (at ∙ ap (λ (z : Node). Some z) same) (to ∙ ap (λ (z : Node). Some z) other)
-      (subst (λ (z : Node). IsSentNext lab H q n m z x) same sent) fresh said)
+      (from_host.five h c (of_nodes the same other) said)

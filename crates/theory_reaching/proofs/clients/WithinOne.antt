@@ -1,5 +1,5 @@
 -- `within 1`: the packet goes at once, and is let in.
-use Rattle.theory_reaching.proofs.Words.{AreFresh, Bool, ClientNode, ComesInTime, Full, Grown, IsChained, IsSentNext, IsTopology, KeepsItsPromise, Lab, List, Node, Reach, Relayed, Some, TwoClients, and_parts, ap, between_clients_lines, between_clients_row, by_lines, client, false, from_native_lines, from_native_row, is_settled, node_at, not, refl, relayed, sound_first, subst, sym, to_native_lines, to_native_row, true, two_clients, ℕ, ◌&&◌, ◌++◌, ◌||◌, ◌∙◌, ◌∷◌, ◌≡◌}
+use Rattle.theory_reaching.proofs.Words.{Bool, ClientNode, ComesInTime, KeepsItsPromise, Node, Reach, Relayed, TwoClients, and_parts, ap, between_clients_lines, between_clients_row, by_lines, client, false, from_native_lines, from_native_row, is_settled, not, refl, relayed, sound_first, subst, sym, to_native_lines, to_native_row, true, two_clients, ℕ, ◌&&◌, ◌||◌, ◌∷◌, ◌≡◌}
 use Rattle.theory_settled.proofs.Earlier.{earlier}
 use Rattle.theory_reaching.specs.declared.word.Reach.TheVariants as word
 use Rattle.theory_reaching.proofs.Tests.{elsewhere, held}
@@ -7,6 +7,7 @@ use Rattle.theory_reaching.proofs.Lines.{which_held}
 use Rattle.theory_reaching.proofs.Pairs.{SaidBy, between_clients, to_native, from_native, said_by}
 use Rattle.theory_reaching.proofs.clients.BothSettled.{AreBoth}
 use Rattle.theory_reaching.proofs.clients.HandsOver.{in_time}
+use Rattle.theory_reaching.proofs.NextPacket.{NextPacket, of_nodes}
 
 -- WHAT THE LINES SAY
 
@@ -58,31 +59,34 @@ never_from a e = which_held is_one (from_native_lines a) word.Within6 refl e
 
 -- THE WORD
 
-module _ (lab : Lab) (H : List Full) (is : IsTopology lab.topology) (chained : IsChained lab) (q : Full) (later : List Full) (n m : ℕ)
-    (a b : Node) (x : List ℕ) (g : Grown lab (later ++ q ∷ H)) (at : node_at lab.topology n ≡ Some a) (to : node_at lab.topology m ≡ Some b)
-    (sent : IsSentNext lab H q n m a x) (fresh : AreFresh q later) where
-  of_clients : (c d : ClientNode) → a ≡ client c → b ≡ client d → GoesStraight (two_clients lab H n m c d) → ComesInTime H q m b x later 1
+module _ (c d : ClientNode) (the : NextPacket (client c) (client d)) where
+  open the use {lab, H, is, chained, q, later, n, m, x, g, at, to, sent, fresh}
+
+  of_clients : GoesStraight (two_clients lab H n m c d) → ComesInTime H q m (client d) x later 1
   unfolding two_clients
-  of_clients c d same other s =
+  of_clients s =
       let both = and_parts (is_settled lab H n c) (is_settled lab H m d) s.settled in
       let are : AreBoth lab H q n m c d x = record {
         rules = is;
         chained = chained;
         grown = earlier lab later (q ∷ H) g;
-        at = at ∙ ap (λ (z : Node). Some z) same;
-        to = to ∙ ap (λ (z : Node). Some z) other;
+        at = at;
+        to = to;
         sender = both.0;
         receiver = both.1;
         apart = s.apart;
         handed = sent.handed;
         sound = sound_first q later fresh;
       } in
-      subst (λ (z : Node). ComesInTime H q m z x later 1) (sym other) (in_time (record { lab = lab; H = H; q = q; n = n; m = m; c = c; d = d; x = x; are = are }) s.quick s.let_in s.heard later g fresh)
+      in_time (record { lab = lab; H = H; q = q; n = n; m = m; c = c; d = d; x = x; are = are }) s.quick s.let_in s.heard later g fresh
 
 pub one_is_kept : KeepsItsPromise word.Within1
 one_is_kept lab H is chained q later n m a b x g at to said sent fresh = by (said_by lab H n m word.Within1 a b at to said) where
+  the : NextPacket a b
+  the = record { lab = lab; H = H; is = is; chained = chained; q = q; later = later; n = n; m = m; x = x; g = g; at = at; to = to; sent = sent; fresh = fresh }
+
   by : SaidBy lab H n m a b word.Within1 → ComesInTime H q m b x later 1
-  by (between_clients c d same other e) = of_clients lab H is chained q later n m a b x g at to sent fresh c d same other
-      (goes_straight (two_clients lab H n m c d) (ap is_one e))
+  by (between_clients c d same other e) = subst (λ (z : Node). ComesInTime H q m z x later 1) (sym other)
+      (of_clients c d (of_nodes the same other) (goes_straight (two_clients lab H n m c d) (ap is_one e)))
   by (to_native c h r same other through e) = absurd (never_to (relayed lab H n c h r) (ap is_one e))
   by (from_native h c r same other through e) = absurd (never_from (relayed lab H m c h r) (ap is_one e))

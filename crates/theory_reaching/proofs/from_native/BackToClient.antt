@@ -95,7 +95,14 @@ module _ (the : SentBack) where
   pub in_time : WayIn lab H r.at (nats_of lab c) c.inside (embedded own)
       → is_trusted_at r.at (known (mentions (journal n H).entries) (now H) h.six) ≡ true → (later : List Full) → Grown lab (later ++ q ∷ H)
       → AreFresh q later → ComesInTime H q n (client c) x later 2
-  in_time way trusted = second_brings lab H q (six (Some k) x) (udp r.at (embedded own) x)
-      (number the) (makes the)
-      (λ p g sound delivered at. ap (filter_map item_in) (sent_on the p g sound delivered at)) n (client c) x
+  in_time way trusted = second_brings (record {
+    lab = lab;
+    H = H;
+    q = q;
+    one = six (Some k) x;
+    two = udp r.at (embedded own) x;
+    number = number the;
+    makes = makes the;
+    goes_on = λ p g sound delivered at. ap (filter_map item_in) (sent_on the p g sound delivered at);
+  }) n (client c) x
       (λ s p grown sound delivered at again to. hands_it p grown.1 sound delivered at s grown again to way trusted)

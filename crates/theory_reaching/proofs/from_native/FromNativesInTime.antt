@@ -1,15 +1,16 @@
 -- `within 5`, `within 6` and `within 9` from a native host: its packet comes by then, past the client's test where this doesn't trust the host
 -- at the relay and, where the relay doesn't know the client, past the relay's bubble.
-use Rattle.theory_reaching.proofs.Words.{AreFresh, Bool, ClientNode, ComesInTime, Full, Grown, HostHandsIn, Ip6, IsChained, IsSentNext, IsTopology, KeepsFromNatives, Lab, List, NativeNode, Reach, RelayNode, Some, address_at, address_of, ap, client, false, most_from_native, native, next_from_native_arrives, node_at, reach_of, relay_at, relayed, subst, true, ℕ, ◌++◌, ◌∷◌, ◌≡◌}
+use Rattle.theory_reaching.proofs.Words.{Bool, ClientNode, ComesInTime, HostHandsIn, Ip6, KeepsFromNatives, NativeNode, Reach, RelayNode, Some, address_at, address_of, ap, client, false, most_from_native, native, next_from_native_arrives, reach_of, relay_at, relayed, subst, true, ℕ, ◌≡◌}
 use Rattle.theory_reaching.specs.declared.word.Reach.TheVariants as word
 use Rattle.theory_reaching.proofs.Pairs.{of_native_and_client}
 use Rattle.theory_reaching.proofs.from_native.NativeMayMeetByWord.{PassesTo, SaysBack, says_back, native_may_meet}
+use Rattle.theory_reaching.proofs.NextPacket.{NextPacket}
 
 -- THE WORDS
 
-module _ (lab : Lab) (H : List Full) (is : IsTopology lab.topology) (chained : IsChained lab) (q : Full) (later : List Full)
-    (n m : ℕ) (h : NativeNode) (d : ClientNode) (x : List ℕ) (g : Grown lab (later ++ q ∷ H)) (at : node_at lab.topology n ≡ Some (native h))
-    (to : node_at lab.topology m ≡ Some (client d)) (sent : IsSentNext lab H q n m (native h) x) (fresh : AreFresh q later) where
+module _ (h : NativeNode) (d : ClientNode) (the : NextPacket (native h) (client d)) where
+  open the use {lab, H, is, chained, q, later, n, m, x, g, at, to, sent, fresh}
+
   -- through its relay
   pub through : (r : RelayNode) → relay_at lab.topology h.relay ≡ Some r → (trusted nine : Bool) → PassesTo trusted nine (relayed lab H m d h r)
       → ComesInTime H q m (client d) x later (most_from_native trusted nine)
@@ -39,7 +40,9 @@ module _ (lab : Lab) (H : List Full) (is : IsTopology lab.topology) (chained : I
   five is_said = let s = seen word.Within5 is_said in through s.0 s.1 true true s.2
 
 pub six_is_kept : KeepsFromNatives word.Within6
-six_is_kept lab H is chained q later n m h d x g at to said sent fresh = six lab H is chained q later n m h d x g at to sent fresh said
+six_is_kept lab H is chained q later n m h d x g at to said sent fresh =
+    six h d (record { lab = lab; H = H; is = is; chained = chained; q = q; later = later; n = n; m = m; x = x; g = g; at = at; to = to; sent = sent; fresh = fresh }) said
 
 pub nine_is_kept : KeepsFromNatives word.Within9
-nine_is_kept lab H is chained q later n m h d x g at to said sent fresh = nine lab H is chained q later n m h d x g at to sent fresh said
+nine_is_kept lab H is chained q later n m h d x g at to said sent fresh =
+    nine h d (record { lab = lab; H = H; is = is; chained = chained; q = q; later = later; n = n; m = m; x = x; g = g; at = at; to = to; sent = sent; fresh = fresh }) said

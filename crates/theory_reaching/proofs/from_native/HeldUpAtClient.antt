@@ -1,5 +1,5 @@
 -- What comes to a client of a native host's packet that is held up: the relay's bubble, and the packet, which the client keeps for itself or drops.
-use Rattle.theory_reaching.proofs.Words.{AllByRecursion, Arrival, Bool, Comes, Delivery, Entry, Full, Grown, HasNoFault, Ip6, IsLetIn, IsMissed, IsShutOut, Item, Journal, List, Made, Mention, None, Option, Send, ServerNode, Some, Span, [], address_at, ap, armed, arrival, as_client, asks_at, at_same_moment, bubble_bytes, by_way, client, client_in, client_settings, comes_or_not, deliveries, embedded, enters_along, false, false≢true, fields_in, filter_map, forwarded, has_room, inl, inr, is_barred, is_fresh, is_let_in, is_reached, is_trusted_at, item_in, journal, known, let_in_too, mention, mentions, nats_left, nats_of, node_at, now, option_and_then, part_of, relay, route, server_ep, shut_there, sixes_apart, slice_get, subst, sym, to_client, to_node, to_none, true, udp, unwrap_or, value_written, way_out, wire, with_entry, words, ℕ, ◌∙◌, ◌∷◌, ◌≡◌, ◌⊎◌}
+use Rattle.theory_reaching.proofs.Words.{AllByRecursion, Arrival, Bool, Comes, Delivery, Entry, Full, HasNoFault, Ip6, IsLetIn, IsMissed, IsShutOut, Item, Journal, List, Made, Mention, None, Option, Send, ServerNode, Some, Span, [], address_at, ap, armed, arrival, as_client, asks_at, at_same_moment, bubble_bytes, by_way, client, client_in, client_settings, comes_or_not, deliveries, embedded, enters_along, false, false≢true, fields_in, filter_map, forwarded, has_room, inl, inr, is_barred, is_fresh, is_let_in, is_reached, is_trusted_at, item_in, journal, known, let_in_too, mention, mentions, nats_left, nats_of, node_at, now, option_and_then, part_of, relay, route, server_ep, shut_there, sixes_apart, slice_get, subst, sym, to_client, to_node, to_none, true, udp, unwrap_or, value_written, way_out, wire, with_entry, words, ℕ, ◌∙◌, ◌∷◌, ◌≡◌, ◌⊎◌}
 use Rattle.legal.specs.Deliveries.{to_nobody}
 use Rattle.theory_reaching.proofs.entries.ClientAnswers.{AnswersOnly}
 use Rattle.theory_reaching.proofs.entries.NoRoomLeft.{full_still}
@@ -10,7 +10,7 @@ use Rattle.theory_reaching.proofs.schedules.OtherRecords.{stays_at, way_still}
 use Rattle.theory_reaching.proofs.relays.RelayEnds.{end, relay_there, no_server}
 use Rattle.theory_reaching.proofs.relays.Relays.{RelayedHosts, AreRelayed}
 use Rattle.theory_reaching.proofs.clients.ShutOut.{missed_brings}
-use Rattle.theory_reaching.proofs.schedules.Throughout.{Goes}
+use Rattle.theory_reaching.proofs.schedules.Throughout.{Goes, OneDelivery}
 use Rattle.theory_reaching.proofs.to_native.Unanswered.{brings_nothing}
 use Rattle.theory_reaching.proofs.from_native.HeldUp as held_up
 use Rattle.theory_reaching.proofs.from_native.HeldUp.{ForClient}
@@ -55,28 +55,29 @@ module _ (the : ForClient) (asks : Bool) where
   abbrev Mistrusted : Journal → ℕ → Type 0
   Mistrusted = held_up.Mistrusted the asks
 
-  module _ (G : List Full) (p : Full) (i : ℕ) (y : Item) (g : Grown lab (p ∷ G)) (sound : HasNoFault p) (delivered : p.delivered ≡ Some i)
-      (at : slice_get (wire G) i ≡ Some y) (up : IsHeldUp G) where
+  module _ (this : OneDelivery lab) (sound : HasNoFault this.p) (up : IsHeldUp this.G) where
+    open this use {G, p, serial, y, g, delivered, at}
+
     abbrev Result : Type 0
     Result = Goes lab H q n (client c) x IsOnWay IsHeldUp G p
 
-    abbrev delivery : Delivery lab G p i
-    delivery = deliveries lab G p i g delivered
+    abbrev delivery : Delivery lab G p serial
+    delivery = deliveries lab G p serial g delivered
 
     -- THE SERVER'S BUBBLE
 
     module _ (may : asks ≡ true) (is : y ≡ udp (server_ep row.primary) (embedded own) (forwarded (Some r.at) (bubble_bytes r.six own))) where
       abbrev came : Arrival lab G p n (client c) (udp (server_ep row.primary) (embedded own) (forwarded (Some r.at) (bubble_bytes r.six own)))
-      came = told_there.to_the_client the asks G p i y g sound delivered at up.way may is
+      came = told_there.to_the_client the asks this sound up.way may is
 
       abbrev got_here : Entry
-      got_here = told_there.got the asks G p i y g sound delivered at up.way may is
+      got_here = told_there.got the asks this sound up.way may is
 
       abbrev answered_here : AnswersOnly (journal n G) (now G) own r.six r.at got_here
-      answered_here = told_there.answered the asks G p i y g sound delivered at up.way may is
+      answered_here = told_there.answered the asks this sound up.way may is
 
       abbrev as_known_here : known (mentions (got_here ∷ (journal n G).entries)) (now G) h.six ≡ known (mentions (journal n G).entries) (now G) h.six
-      as_known_here = told_there.as_known the asks G p i y g sound delivered at up.way may is
+      as_known_here = told_there.as_known the asks this sound up.way may is
 
       still_closed : Closed (journal n G) (now G) → Closed (with_entry (journal n G) got_here) (now G)
       still_closed (inl (inl barred)) = inl (inl (ap (is_barred (now G)) as_known_here ∙ barred))
@@ -94,7 +95,7 @@ module _ (the : ForClient) (asks : Bool) where
       at_client =
           let d = came.did in
           record {
-            made = told_there.made_at_client the asks G p i y g sound delivered at up.way may is;
+            made = told_there.made_at_client the asks this sound up.way may is;
             stays = record {
               waits = stays_at lab k (AtRelay asks) G p n d.moment d.node (client_relay the_three) up.waits;
               closed = at_same_moment Closed G p n (with_entry (journal n G) got_here) d.moment d.later (still_closed up.closed);
@@ -102,7 +103,7 @@ module _ (the : ForClient) (asks : Bool) where
                   (ap (is_trusted_at r.at) as_known_here ∙ up.mistrusted);
               way = way_still lab c own G p (record { follows = g.0; calm = came.calm; moment = d.moment }) up.way;
             };
-            silent = told_there.silent_at_client the asks G p i y g sound delivered at up.way may is;
+            silent = told_there.silent_at_client the asks this sound up.way may is;
           }
 
     -- THE PACKET AT THE CLIENT
@@ -111,7 +112,7 @@ module _ (the : ForClient) (asks : Bool) where
       -- it is let in
       module _ (enters : IsLetIn lab G (now G) r.at (embedded own) c) where
         to_itself : Arrival lab G p n (client c) (udp r.at (embedded own) x)
-        to_itself = arrival lab G p i delivery (record {
+        to_itself = arrival lab G p serial delivery (record {
           number = n;
           node = client c;
           item = udp r.at (embedded own) x;
@@ -165,13 +166,13 @@ module _ (the : ForClient) (asks : Bool) where
         silent = missed_brings lab G p u n x miss;
       }
 
-      same_item : (u : Item) → slice_get (wire G) i ≡ Some u → u ≡ udp r.at (embedded own) x
+      same_item : (u : Item) → slice_get (wire G) serial ≡ Some u → u ≡ udp r.at (embedded own) x
       same_item u to = ap (λ (o : Option Item). unwrap_or o u) (sym to ∙ at) ∙ is
 
       -- or not
       shut_out : (b : ℕ) → IsShutOut lab G (now G) r.at (embedded own) b → Result
       shut_out b out = by delivery where
-        by : Delivery lab G p i → Result
+        by : Delivery lab G p serial → Result
         by (to_node a d u to reached) = absurd (false≢true (ap is_reached (sym (to_none lab are.rules G r.at (embedded own) x b out)
             ∙ ap (route lab G (now G)) (sym (same_item u to)) ∙ reached.leads)))
         by (to_nobody u to miss) = missed u miss

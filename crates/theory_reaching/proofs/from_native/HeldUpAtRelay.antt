@@ -1,5 +1,5 @@
 -- A native host's packet at its relay, and the client's bubble there: what it lets go is the packet alone.
-use Rattle.theory_reaching.proofs.Words.{AllByRecursion, Arrival, Bool, Delivery, Entry, Full, Grown, HasNoFault, Input, Ip6, Item, Journal, List, Made, None, Option, ReadsBubble, RelaySettings, Send, Some, Span, [], address_at, ap, armed, arrival, arrived, at_same_moment, bubble_bytes, bubble_of, bubble_reads_back, bubble_to, client, deliveries, each_so, embedded, entry_input, false, fields_in, filter_map, from_six, inl, inr, is_some, item_in, journal, known, no_ep, node_at, node_is_reached, now, outright, own_ep, refl, relay, relay_in, relay_mentions, relay_settings, relay_six, send, six, six_made, slice_get, subst, sym, true, udp, value_written, wire, with_entry, ℕ, ◌++◌, ◌∙◌, ◌∷◌, ◌≡◌, ◌⊎◌}
+use Rattle.theory_reaching.proofs.Words.{AllByRecursion, Arrival, Bool, Delivery, Entry, Full, HasNoFault, Input, Ip6, Item, Journal, List, Made, None, Option, ReadsBubble, RelaySettings, Send, Some, Span, [], address_at, ap, armed, arrival, arrived, at_same_moment, bubble_bytes, bubble_of, bubble_reads_back, bubble_to, client, deliveries, each_so, embedded, entry_input, false, fields_in, filter_map, from_six, inl, inr, is_some, item_in, journal, known, no_ep, node_at, node_is_reached, now, outright, own_ep, refl, relay, relay_in, relay_mentions, relay_settings, relay_six, send, six, six_made, subst, sym, true, udp, value_written, with_entry, ℕ, ◌++◌, ◌∙◌, ◌∷◌, ◌≡◌, ◌⊎◌}
 use Rattle.theory_reaching.proofs.relays.NodesApart.{relay_client}
 use Rattle.theory_reaching.proofs.schedules.OtherRecords.{another, stays_at, way_still}
 use Rattle.theory_reaching.proofs.relays.RelayEnds.{end, relay_there, relay_keeps}
@@ -9,7 +9,7 @@ use Rattle.theory_reaching.proofs.relays.RelayMade.{each_made}
 use Rattle.theory_reaching.proofs.from_native.RelayTells.{its_bubble}
 use Rattle.theory_reaching.proofs.relays.Relays.{RelayedHosts, AreRelayed}
 use Rattle.theory_reaching.proofs.entries.TestRelayed.{RelaysIt, relays_it}
-use Rattle.theory_reaching.proofs.schedules.Throughout.{Goes}
+use Rattle.theory_reaching.proofs.schedules.Throughout.{Goes, OneDelivery}
 use Rattle.theory_reaching.proofs.from_native.HeldUp as held_up
 use Rattle.theory_reaching.proofs.from_native.HeldUp.{ForClient, asking, to_client_itself}
 
@@ -45,13 +45,14 @@ module _ (the : ForClient) (asks : Bool) where
 
   -- A DELIVERY
 
-  module _ (G : List Full) (p : Full) (i : ℕ) (y : Item) (g : Grown lab (p ∷ G)) (sound : HasNoFault p) (delivered : p.delivered ≡ Some i)
-      (at : slice_get (wire G) i ≡ Some y) (up : IsHeldUp G) where
+  module _ (this : OneDelivery lab) (sound : HasNoFault this.p) (up : IsHeldUp this.G) where
+    open this use {G, p, serial, y, g, delivered, at}
+
     abbrev Result : Type 0
     Result = Goes lab H q n (client c) x IsOnWay IsHeldUp G p
 
-    abbrev delivery : Delivery lab G p i
-    delivery = deliveries lab G p i g delivered
+    abbrev delivery : Delivery lab G p serial
+    delivery = deliveries lab G p serial g delivered
 
     abbrev s : RelaySettings
     s = relay_settings lab.topology k r
@@ -63,7 +64,7 @@ module _ (the : ForClient) (asks : Bool) where
 
     module _ (is : y ≡ six (Some h.relay) x) where
       to_relay : Arrival lab G p k (relay r) (six (Some h.relay) x)
-      to_relay = arrival lab G p i delivery (record {
+      to_relay = arrival lab G p serial delivery (record {
         number = k;
         node = relay r;
         item = six (Some h.relay) x;
@@ -126,7 +127,7 @@ module _ (the : ForClient) (asks : Bool) where
 
     module _ (may : asks ≡ true) (is : y ≡ udp (embedded own) r.at (bubble_bytes own r.six)) where
       its_answer : Arrival lab G p k (relay r) (udp (embedded own) r.at (bubble_bytes own r.six))
-      its_answer = arrival lab G p i delivery (record {
+      its_answer = arrival lab G p serial delivery (record {
         number = k;
         node = relay r;
         item = udp (embedded own) r.at (bubble_bytes own r.six);

@@ -1,12 +1,12 @@
 -- A native host's packet for a client that may not test it yet: no delivery of what comes of it brings it to the client's host.
-use Rattle.theory_reaching.proofs.Words.{AllByRecursion, AreFresh, Arrival, Bool, Delivery, Full, Grown, HasNoFault, Ip6, Item, List, Made, ServerNode, Some, SomeBrings, address_at, ap, arrival, bubble_bytes, client, deliveries, filter_map, item_in, items_of, length, node_at, refl, server, server_ep, slice_get, subst, sym, to_server, true, udp, wire, ℕ, ◌++◌, ◌∙◌, ◌∷◌, ◌≡◌}
+use Rattle.theory_reaching.proofs.Words.{AllByRecursion, AreFresh, Arrival, Bool, Delivery, Full, Grown, HasNoFault, Ip6, Item, List, Made, ServerNode, Some, SomeBrings, address_at, ap, arrival, bubble_bytes, client, deliveries, filter_map, item_in, items_of, length, node_at, refl, server, server_ep, subst, sym, to_server, true, udp, wire, ℕ, ◌++◌, ◌∙◌, ◌∷◌, ◌≡◌}
 use Rattle.theory_first_packets.proofs.tables.AtServer as at_server
 use Rattle.theory_reaching.proofs.relays.NodesApart.{server_client, server_relay}
 use Rattle.theory_reaching.proofs.schedules.OtherRecords.{another}
 use Rattle.theory_reaching.proofs.relays.RelayEnds.{c_side, end}
 use Rattle.theory_reaching.proofs.from_native.RelayTells.{may_tell}
 use Rattle.theory_reaching.proofs.relays.Relays.{RelayedHosts, AreRelayed}
-use Rattle.theory_reaching.proofs.schedules.Throughout.{Goes, none_brings}
+use Rattle.theory_reaching.proofs.schedules.Throughout.{Goes, none_brings, OneDelivery}
 use Rattle.theory_reaching.proofs.from_native.HeldUp as held_up
 use Rattle.theory_reaching.proofs.from_native.HeldUp.{ForClient, given, asking, told, answering, to_client_itself}
 use Rattle.theory_reaching.proofs.from_native.HeldUpAtRelay as at_relay
@@ -38,19 +38,20 @@ module _ (the : ForClient) (asks : Bool) where
 
   -- A DELIVERY
 
-  module _ (G : List Full) (p : Full) (i : ℕ) (y : Item) (g : Grown lab (p ∷ G)) (sound : HasNoFault p) (delivered : p.delivered ≡ Some i)
-      (at : slice_get (wire G) i ≡ Some y) (up : IsHeldUp G) where
+  module _ (this : OneDelivery lab) (sound : HasNoFault this.p) (up : IsHeldUp this.G) where
+    open this use {G, p, serial, y, g, delivered, at}
+
     abbrev Result : Type 0
     Result = Goes lab H q n (client c) x IsOnWay IsHeldUp G p
 
-    abbrev delivery : Delivery lab G p i
-    delivery = deliveries lab G p i g delivered
+    abbrev delivery : Delivery lab G p serial
+    delivery = deliveries lab G p serial g delivered
 
     -- THE RELAY'S BUBBLE AT THE CLIENT'S SERVER
 
     module _ (may : asks ≡ true) (is : y ≡ udp r.at (server_ep row.primary) (bubble_bytes r.six own)) where
       to_its_server : Arrival lab G p c.server (server row) (udp r.at (server_ep row.primary) (bubble_bytes r.six own))
-      to_its_server = arrival lab G p i delivery (record {
+      to_its_server = arrival lab G p serial delivery (record {
         number = c.server;
         node = server row;
         item = udp r.at (server_ep row.primary) (bubble_bytes r.six own);
@@ -73,17 +74,17 @@ module _ (the : ForClient) (asks : Bool) where
 
     pub step : IsOnWay y → Result
     step (given is) = at_relay.at_relay the asks
-        G p i y g sound delivered at up is
+        this sound up is
     step (asking may is) = at_its_server may is
     step (told may is) = at_client.at_client the asks
-        G p i y g sound delivered at up may is
+        this sound up may is
     step (answering may is) = at_relay.at_relay_again the asks
-        G p i y g sound delivered at up may is
+        this sound up may is
     step (to_client_itself is) = at_client.goes_to_client the asks
-        G p i y g sound delivered at up is
+        this sound up is
 
   -- so no delivery brings it
   pub none_come : q.first ≡ length (wire H) → AllByRecursion IsOnWay (items_of q) → IsHeldUp (q ∷ H) → (later : List Full) → Grown lab (later ++ q ∷ H)
       → AreFresh q later → SomeBrings n (client c) x later → ⊥
   none_come number all first = none_brings lab H q n (client c) x IsOnWay IsHeldUp
-      (λ G p i y g sound delivered at is up. step G p i y g sound delivered at up is) number all first
+      (λ this sound is up. step this sound up is) number all first

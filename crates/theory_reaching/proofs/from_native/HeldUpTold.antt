@@ -1,5 +1,5 @@
 -- A relay's bubble at a client, from the client's server: the client answers it, or does nothing.
-use Rattle.theory_reaching.proofs.Words.{AllByRecursion, Arrival, Bool, Delivery, Entry, Full, GivesToHost, Grown, HasNoFault, Ip6, IsElsewhere, Item, List, Made, None, Option, ReadsPayload, Send, ServerNode, Some, Span, Value, WayIn, [], address_at, all_leaves, ap, arrival, as_client, asks_at, bubble_bytes, bubble_message, bubble_of, bubble_small, client, client_in, client_settings, deliveries, each_so, embedded, enters_along, filter_map, forwarded, forwarded_reads_back, is_advert, is_let_in, item_in, items_of, journal, known, map, mentions, nats_of, node_at, now, option_and_then, other_way, part_of, refl, relay, send, sent, server_ep, sixes_apart, slice_get, subst, sym, to_client, true, udp, value_written, wire, words, ℕ, ◌∙◌, ◌∷◌, ◌≡◌}
+use Rattle.theory_reaching.proofs.Words.{AllByRecursion, Arrival, Bool, Delivery, Entry, GivesToHost, HasNoFault, Ip6, IsElsewhere, Item, List, Made, None, Option, ReadsPayload, Send, ServerNode, Some, Span, Value, WayIn, [], address_at, all_leaves, ap, arrival, as_client, asks_at, bubble_bytes, bubble_message, bubble_of, bubble_small, client, client_in, client_settings, deliveries, each_so, embedded, enters_along, filter_map, forwarded, forwarded_reads_back, is_advert, is_let_in, item_in, items_of, journal, known, map, mentions, nats_of, node_at, now, option_and_then, other_way, part_of, refl, relay, send, sent, server_ep, sixes_apart, subst, sym, to_client, true, udp, value_written, words, ℕ, ◌∙◌, ◌∷◌, ◌≡◌}
 use Rattle.theory_first_packets.proofs.tables.AtServer as at_server
 use Rattle.theory_reaching.proofs.entries.ClientAnswers.{AnswersOnly, answers}
 use Rattle.theory_reaching.proofs.relays.RelayEnds.{c_side, end, along, relay_there, relay_keeps, relay_elsewhere}
@@ -8,6 +8,7 @@ use Rattle.theory_reaching.proofs.relays.Relays.{RelayedHosts, AreRelayed}
 use Rattle.theory_reaching.proofs.to_native.Unanswered.{brings_nothing}
 use Rattle.theory_reaching.proofs.from_native.HeldUp as held_up
 use Rattle.theory_reaching.proofs.from_native.HeldUp.{ForClient, answering}
+use Rattle.theory_reaching.proofs.schedules.Throughout.{OneDelivery}
 
 module _ (the : ForClient) (asks : Bool) where
   open the use {lab, H, n, m, c, h, r, x, q, is_for}
@@ -38,10 +39,12 @@ module _ (the : ForClient) (asks : Bool) where
 
   -- A DELIVERY
 
-  module _ (G : List Full) (p : Full) (i : ℕ) (y : Item) (g : Grown lab (p ∷ G)) (sound : HasNoFault p) (delivered : p.delivered ≡ Some i)
-      (at : slice_get (wire G) i ≡ Some y) (way_in : WayIn lab G (asks_at lab c) (nats_of lab c) c.inside (embedded own)) where
-    abbrev delivery : Delivery lab G p i
-    delivery = deliveries lab G p i g delivered
+  module _ (this : OneDelivery lab) (sound : HasNoFault this.p) (way_in : WayIn lab this.G (asks_at lab c) (nats_of lab c) c.inside
+      (embedded own)) where
+    open this use {G, p, serial, y, g, delivered, at}
+
+    abbrev delivery : Delivery lab G p serial
+    delivery = deliveries lab G p serial g delivered
 
     -- THE SERVER'S BUBBLE AT THE CLIENT
 
@@ -53,7 +56,7 @@ module _ (the : ForClient) (asks : Bool) where
       v = value_written None (Some r.at) (bubble_of r.six own)
 
       pub to_the_client : Arrival lab G p n (client c) (udp (server_ep row.primary) (embedded own) z)
-      to_the_client = arrival lab G p i delivery (record {
+      to_the_client = arrival lab G p serial delivery (record {
         number = n;
         node = client c;
         item = udp (server_ep row.primary) (embedded own) z;
@@ -77,7 +80,7 @@ module _ (the : ForClient) (asks : Bool) where
       answered = answers (client_settings lab.topology c) (journal n G) (now G) (server_ep row.primary) z v reads
           (from_its_server the_three) (ap is_advert (bubble_message r.six own)) r.at refl (words lab n G)
 
-      -- of the held_up.native laws vain lab H n m c h r x q is_for asks the same is known
+      -- of the native host the same is known
       pub as_known : known (mentions (got ∷ (journal n G).entries)) (now G) h.six ≡ known (mentions (journal n G).entries) (now G) h.six
       as_known = answered.others h.six (other_way r.six h.six (sixes_apart lab.topology are.rules k m r h relay_is are.host_is))
 

@@ -1,6 +1,6 @@
 -- A native host's packet for a client that has room for the host or for its relay, but not for both: once the relay is answered there is
 -- no room for the host.
-use Rattle.theory_reaching.proofs.Words.{AllByRecursion, AreFresh, Arrival, Bool, Delivery, Entry, Full, Grown, HasNoFault, Input, Ip6, IsCalmNext, Item, Journal, List, Made, Mention, PEERS_MAX, RelaySettings, Send, ServerNode, Some, SomeBrings, WayIn, [], address_at, ap, armed, arrival, asks_at, at_same_moment, bubble_bytes, by_way, client, client_journals, client_settings, cond, deliveries, each_so, embedded, entry_input, false, fields_in, filter_map, forwarded, from_six, has_cone, has_room, has_room_for_both, inl, inr, is_listed, is_some, is_trusted_at, item_in, items_of, journal, journal_has_few, known, length, listed, mention, mentions, nat_le, nats_of, no_ep, node_at, node_is_reached, now, outright, own_ep, refl, relay, relay_mentions, relay_settings, relay_six, server, server_ep, six, six_made, sixes_apart, slice_get, subst, sym, to_server, true, udp, way_out, wire, with_entry, ℕ, ◌++◌, ◌+◌, ◌∙◌, ◌∷◌, ◌≡◌, ◌≤◌, ◌⊎◌}
+use Rattle.theory_reaching.proofs.Words.{AllByRecursion, AreFresh, Arrival, Bool, Delivery, Entry, Full, Grown, HasNoFault, Input, Ip6, IsCalmNext, Item, Journal, List, Made, Mention, PEERS_MAX, RelaySettings, Send, ServerNode, Some, SomeBrings, WayIn, [], address_at, ap, armed, arrival, asks_at, at_same_moment, bubble_bytes, by_way, client, client_journals, client_settings, cond, deliveries, each_so, embedded, entry_input, false, fields_in, filter_map, forwarded, from_six, has_cone, has_room, has_room_for_both, inl, inr, is_listed, is_some, is_trusted_at, item_in, items_of, journal, journal_has_few, known, length, listed, mention, mentions, nat_le, nats_of, no_ep, node_at, node_is_reached, now, outright, own_ep, refl, relay, relay_mentions, relay_settings, relay_six, server, server_ep, six, six_made, sixes_apart, subst, sym, to_server, true, udp, way_out, wire, with_entry, ℕ, ◌++◌, ◌+◌, ◌∙◌, ◌∷◌, ◌≡◌, ◌≤◌, ◌⊎◌}
 use Rattle.theory_first_packets.proofs.tables.AtServer as at_server
 use Rattle.theory_reaching.proofs.entries.ClientAnswers.{AnswersOnly}
 use Rattle.theory_reaching.proofs.from_native.HeldUp as held_up
@@ -17,7 +17,7 @@ use Rattle.theory_reaching.proofs.relays.RelayMade.{each_made}
 use Rattle.theory_reaching.proofs.from_native.RelayTells.{may_tell, its_bubble}
 use Rattle.theory_reaching.proofs.relays.Relays.{RelayedHosts, AreRelayed}
 use Rattle.theory_reaching.proofs.schedules.Throughout as every
-use Rattle.theory_reaching.proofs.schedules.Throughout.{Goes, none_of_new_brings}
+use Rattle.theory_reaching.proofs.schedules.Throughout.{Goes, none_of_new_brings, OneDelivery}
 use Rattle.theory_reaching.proofs.clients.Unheard.{as_listed, all_listed}
 
 -- an entry that lists nobody leaves whether there is room for two
@@ -111,17 +111,18 @@ module _ (the : ForClient) (plain : has_cone (address_at the.lab the.H the.n) �
 
   -- A DELIVERY
 
-  module _ (G : List Full) (p : Full) (i : ℕ) (y : Item) (g : Grown lab (p ∷ G)) (sound : HasNoFault p) (delivered : p.delivered ≡ Some i)
-      (at : slice_get (wire G) i ≡ Some y) (early : IsUnanswered G) where
+  module _ (this : OneDelivery lab) (sound : HasNoFault this.p) (early : IsUnanswered this.G) where
+    open this use {G, p, serial, y, g, delivered, at}
+
     abbrev Result : Type 0
     Result = Goes lab H q n (client c) x IsOnWay IsCrowded G p
 
-    abbrev delivery : Delivery lab G p i
-    delivery = deliveries lab G p i g delivered
+    abbrev delivery : Delivery lab G p serial
+    delivery = deliveries lab G p serial g delivered
 
     module _ (is : y ≡ six (Some h.relay) x) where
       came : Arrival lab G p k (relay r) (six (Some h.relay) x)
-      came = arrival lab G p i delivery (record {
+      came = arrival lab G p serial delivery (record {
         number = k;
         node = relay r;
         item = six (Some h.relay) x;
@@ -173,7 +174,7 @@ module _ (the : ForClient) (plain : has_cone (address_at the.lab the.H the.n) �
 
     module _ (is : y ≡ udp r.at (server_ep row.primary) (bubble_bytes r.six own)) where
       to_its_server : Arrival lab G p c.server (server row) (udp r.at (server_ep row.primary) (bubble_bytes r.six own))
-      to_its_server = arrival lab G p i delivery (record {
+      to_its_server = arrival lab G p serial delivery (record {
         number = c.server;
         node = server row;
         item = udp r.at (server_ep row.primary) (bubble_bytes r.six own);
@@ -199,17 +200,17 @@ module _ (the : ForClient) (plain : has_cone (address_at the.lab the.H the.n) �
 
     module _ (is : y ≡ udp (server_ep row.primary) (embedded own) (forwarded (Some r.at) (bubble_bytes r.six own))) where
       abbrev here : Arrival lab G p n (client c) (udp (server_ep row.primary) (embedded own) (forwarded (Some r.at) (bubble_bytes r.six own)))
-      here = told_there.to_the_client the true G p i y g sound delivered at early.way refl is
+      here = told_there.to_the_client the true this sound early.way refl is
 
       abbrev got : Entry
-      got = told_there.got the true G p i y g sound delivered at early.way refl is
+      got = told_there.got the true this sound early.way refl is
 
       abbrev answered : AnswersOnly (journal n G) (now G) own r.six r.at got
-      answered = told_there.answered the true G p i y g sound delivered at early.way refl is
+      answered = told_there.answered the true this sound early.way refl is
 
       still_mistrusted : Mistrusted (with_entry (journal n G) got) (now G)
       still_mistrusted = ap (is_trusted_at r.at)
-          (told_there.as_known the true G p i y g sound delivered at early.way refl is) ∙ early.mistrusted
+          (told_there.as_known the true this sound early.way refl is) ∙ early.mistrusted
 
       next : IsCalmNext lab G p
       next = record { follows = g.0; calm = here.calm; moment = here.did.moment }
@@ -219,9 +220,9 @@ module _ (the : ForClient) (plain : has_cone (address_at the.lab the.H the.n) �
 
       client_does : Result
       client_does = record {
-        made = told_there.made_at_client the true G p i y g sound delivered at early.way refl is;
+        made = told_there.made_at_client the true this sound early.way refl is;
         stays = by answered.lists;
-        silent = told_there.silent_at_client the true G p i y g sound delivered at early.way refl is;
+        silent = told_there.silent_at_client the true this sound early.way refl is;
       } where
         by : ((got.step.sends ≡ []) × ((mention got).bearing.touches ≡ false))
             ⊎ ((has_room (mentions (journal n G).entries) (now G) r.six ≡ true) × ((mention got).bearing.touches ≡ true)) → IsCrowded (p ∷ G)
@@ -252,9 +253,9 @@ module _ (the : ForClient) (plain : has_cone (address_at the.lab the.H the.n) �
     of_early (at_client is) = client_does is
 
   step : every.StepOfNew lab H q n (client c) x IsOnWay IsCrowded
-  step G p i y new g sound delivered at is (unanswered early) = of_early G p i y g sound delivered at early (early.each i y new at)
-  step G p i y new g sound delivered at is (held_back up) =
-      let goes = throughout.step the true G p i y g sound delivered at up is in
+  step this new sound is (unanswered early) = of_early this sound early (early.each this.serial this.y new this.at)
+  step this new sound is (held_back up) =
+      let goes = throughout.step the true this sound up is in
       record { made = goes.made; stays = held_back goes.stays; silent = goes.silent }
 
   -- so no delivery brings it

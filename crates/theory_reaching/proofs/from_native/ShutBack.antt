@@ -97,8 +97,15 @@ module _ (the : SentBack) (led : is_led_to the.lab the.H the.r.at (embedded (add
 
   -- so no delivery brings it
   pub none_come : (later : List Full) → Grown lab (later ++ q ∷ H) → AreFresh q later → SomeBrings n (client c) x later → ⊥
-  none_come = neither_brings lab H q (six (Some h.relay) x) (udp r.at (embedded own) x) (number the)
-      (makes the)
-      (λ p g sound delivered at. ap (filter_map item_in) (sent_on the p g sound delivered at)) n (client c) x
+  none_come = neither_brings (record {
+    lab = lab;
+    H = H;
+    q = q;
+    one = six (Some h.relay) x;
+    two = udp r.at (embedded own) x;
+    number = number the;
+    makes = makes the;
+    goes_on = λ p g sound delivered at. ap (filter_map item_in) (sent_on the p g sound delivered at);
+  }) n (client c) x
       (λ s p grown sound delivered at again to. ends_here p grown.1 sound delivered at s grown again to)
       (λ p g sound delivered at. silent p g sound delivered at)

@@ -8,7 +8,7 @@ use Rattle.theory_reaching.proofs.no_address.OffHost.{its_act}
 use Rattle.theory_reaching.proofs.no_address.OffAndAway.{is_away, away_between, away_to, away_from}
 use Rattle.theory_reaching.proofs.Pairs.{SaidBy, between_clients, to_native, from_native, said_by}
 use Rattle.theory_reaching.proofs.entries.StaysOff.{IsMute, stays_mute}
-use Rattle.theory_reaching.proofs.schedules.Throughout.{Goes, none_brings}
+use Rattle.theory_reaching.proofs.schedules.Throughout.{Goes, none_brings, OneDelivery}
 use Rattle.theory_reaching.proofs.to_native.Unanswered.{brings_nothing}
 
 -- THE RECEIVER
@@ -58,21 +58,21 @@ module _ (lab : Lab) (rules : IsTopology lab.topology) (m : ℕ) (d : ClientNode
           at_it (subst (λ (b : Node). IsReached lab G p m b y) its here) z
       by false e = elsewhere i a reached (λ same. let it : (i == m) ≡ true = grind (arith, nat_tests) in false≢true (sym e ∙ it)) z
 
-  step : (z : List ℕ) (G : List Full) (p : Full) (k : ℕ) (y : Item) → Grown lab (p ∷ G) → p.delivered ≡ Some k → slice_get (wire G) k ≡ Some y
-      → IsNonceless y → IsOff G → (q : Full) (H : List Full) → Goes lab H q m (client d) z IsNonceless IsOff G p
-  step z G p k y g delivered at none off q H = by (deliveries lab G p k g delivered) where
-    same_item : (u : Item) → slice_get (wire G) k ≡ Some u → y ≡ u
-    same_item u e = ap (λ (o : Option Item). unwrap_or o y) (sym at ∙ e)
+  step : (z : List ℕ) (this : OneDelivery lab) → IsNonceless this.y → IsOff this.G → (q : Full) (H : List Full)
+      → Goes lab H q m (client d) z IsNonceless IsOff this.G this.p
+  step z this none off q H = by (deliveries lab this.G this.p this.serial this.g this.delivered) where
+    same_item : (u : Item) → slice_get (wire this.G) this.serial ≡ Some u → this.y ≡ u
+    same_item u e = ap (λ (o : Option Item). unwrap_or o this.y) (sym this.at ∙ e)
 
-    by : Delivery lab G p k → Goes lab H q m (client d) z IsNonceless IsOff G p
+    by : Delivery lab this.G this.p this.serial → Goes lab H q m (client d) z IsNonceless IsOff this.G this.p
     by (to_node i a u e reached) =
         let nonceless : IsNonceless u = subst IsNonceless (same_item u e) none in
-        let holds = stays G p u g nonceless off i a reached z in
-        record { made = of_delivery lab rules G p g i a u nonceless reached; stays = holds.0; silent = holds.1 }
+        let holds = stays this.G this.p u this.g nonceless off i a reached z in
+        record { made = of_delivery lab rules this.G this.p this.g i a u nonceless reached; stays = holds.0; silent = holds.1 }
     by (to_nobody u e miss) = record {
       made = subst (λ (ms : List Made). AllByRecursion IsNonceless (filter_map item_in ms)) (sym miss.made) tt;
       stays = ap (λ (j : Journal). is_qualified (qualification s j).phase) (miss.journals m) ∙ off;
-      silent = λ gives. brings_nothing p m z miss.handed miss.late gives;
+      silent = λ gives. brings_nothing this.p m z miss.handed miss.late gives;
     }
 
 -- THE SENDER
@@ -120,7 +120,7 @@ away_brings_nothing lab H rules q later n m a d x y g at to said hands fresh = b
 
   none : is_on lab H m d ≡ false → AllByRecursion IsNonceless (items_of q) → SomeBrings m (client d) y later → ⊥
   none off all = none_brings lab H q m (client d) y IsNonceless (λ (G : List Full). is_on lab G m d ≡ false)
-      (λ G p k z grown sound delivered its is still. step lab rules m d to y G p k z grown delivered its is still q H)
+      (λ this sound is still. step lab rules m d to y this is still q H)
       (first_is lab H q there) all
       (ap (λ (j : Journal). is_qualified (qualification (client_settings lab.topology d) j).phase)
       (other_journal lab H q n m hands.node others) ∙ off) later g fresh

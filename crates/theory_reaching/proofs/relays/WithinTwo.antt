@@ -1,5 +1,5 @@
 -- `within 2`: between a client and a native host, through a relay that knows the client.
-use Rattle.theory_reaching.proofs.Words.{AreFresh, Bool, ClientNode, ComesInTime, Full, Grown, HostHandsIn, Ip6, IsChained, IsSentNext, IsTopology, KeepsItsPromise, Lab, List, NativeNode, Node, Reach, RelayNode, Relayed, Some, TwoClients, WayIn, address_at, address_of, and_parts, ap, asked_along, between_clients_lines, between_clients_row, by_lines, client, embedded, enters_by_its_way, false, inl, inr, known_by_relay, native, nats_of, node_at, not, now, refl, relay_at, relayed, sound_first, subst, sym, to_native_lines, to_native_row, true, two_clients, ℕ, ◌&&◌, ◌++◌, ◌∙◌, ◌∷◌, ◌≡◌, ◌⊎◌}
+use Rattle.theory_reaching.proofs.Words.{Bool, ClientNode, ComesInTime, Grown, HostHandsIn, Ip6, KeepsItsPromise, NativeNode, Node, Reach, RelayNode, Relayed, Some, TwoClients, WayIn, address_at, address_of, and_parts, ap, asked_along, between_clients_lines, between_clients_row, by_lines, client, embedded, enters_by_its_way, false, inl, inr, known_by_relay, native, nats_of, not, now, refl, relay_at, relayed, sound_first, subst, sym, to_native_lines, to_native_row, true, two_clients, ℕ, ◌&&◌, ◌∷◌, ◌≡◌, ◌⊎◌}
 use Rattle.theory_settled.proofs.Earlier.{earlier}
 use Rattle.theory_reaching.specs.declared.word.Reach.TheVariants as word
 use Rattle.theory_reaching.proofs.Tests.{elsewhere, held, failed, second_fails}
@@ -12,6 +12,7 @@ use Rattle.theory_reaching.proofs.from_native.FromHost.{is_from_host}
 use Rattle.theory_reaching.proofs.from_native.FromNativesInTime as from_host
 use Rattle.theory_reaching.proofs.from_native.NativeMayMeetByWord.{PassesTo, IsKnownBack, SaysBack, says_back}
 use Rattle.theory_reaching.proofs.to_native.ToNatives as out
+use Rattle.theory_reaching.proofs.NextPacket.{NextPacket, of_nodes}
 
 -- WHAT THE LINES SAY
 
@@ -55,21 +56,18 @@ never_between a e = which_held is_two (between_clients_lines a) word.Within5 ref
 
 -- THE WORD
 
-module _ (lab : Lab) (H : List Full) (is : IsTopology lab.topology) (chained : IsChained lab) (q : Full) (later : List Full) (n m : ℕ)
-    (a b : Node) (x : List ℕ) (g : Grown lab (later ++ q ∷ H)) (at : node_at lab.topology n ≡ Some a) (to : node_at lab.topology m ≡ Some b)
-    (sent : IsSentNext lab H q n m a x) (fresh : AreFresh q later) where
-  there : Grown lab (q ∷ H)
-  there = earlier lab later (q ∷ H) g
+module _ (c : ClientNode) (h : NativeNode) (the : NextPacket (client c) (native h)) where
+  open the use {lab, H, is, chained, q, later, n, m, x, g, at, to, sent, fresh}
 
-  outwards : (c : ClientNode) (h : NativeNode) (r : RelayNode) → a ≡ client c → b ≡ native h → relay_at lab.topology h.relay ≡ Some r
-      → IsKnownOut (relayed lab H n c h r) → ComesInTime H q m b x later 2
+  outwards : (r : RelayNode) → relay_at lab.topology h.relay ≡ Some r → IsKnownOut (relayed lab H n c h r)
+      → ComesInTime H q m (native h) x later 2
   unfolding relayed
-  outwards c h r same other through s =
+  outwards r through s =
+      let there : Grown lab (q ∷ H) = earlier lab later (q ∷ H) g in
       let w = relayed lab H n c h r in
       let first = and_parts w.fresh (w.trusted && not w.relay_keeps) s.known in
       let second = and_parts w.trusted (not w.relay_keeps) first.1 in
-      let host = to ∙ ap (λ (z : Node). Some z) other in
-      subst (λ (z : Node). ComesInTime H q m z x later 2) (sym other) (out.in_time (record {
+      out.in_time (record {
         lab = lab;
         H = H;
         q = q;
@@ -84,13 +82,13 @@ module _ (lab : Lab) (H : List Full) (is : IsTopology lab.topology) (chained : I
             rules = is;
             chained = chained;
             grown = there.1;
-            client_is = at ∙ ap (λ (z : Node). Some z) same;
-            host_is = host;
+            client_is = at;
+            host_is = to;
             relay_is = through;
             settled = s.settled;
           };
           grown = there;
-          handed = subst (λ (z : Ip6). HostHandsIn q n (address_at lab H n) z x) (ap (address_of lab H m) host) sent.handed;
+          handed = subst (λ (z : Ip6). HostHandsIn q n (address_at lab H n) z x) (ap (address_of lab H m) to) sent.handed;
           sound = sound_first q later fresh;
           fresh = first.0;
           trusted = second.0;
@@ -98,22 +96,24 @@ module _ (lab : Lab) (H : List Full) (is : IsTopology lab.topology) (chained : I
       }) (record {
         listed = held w.listed (second_fails w.trusted (not w.listed) (second_fails w.fresh (w.trusted && not w.listed) s.unlisted first.0) second.0);
         nothing_waits = no_packets (known_by_relay H h.relay (address_at lab H n)) (failed w.relay_keeps second.1);
-      }) later g fresh)
+      }) later g fresh
 
-  backwards : (h : NativeNode) (c : ClientNode) (r : RelayNode) → a ≡ native h → b ≡ client c → relay_at lab.topology h.relay ≡ Some r
-      → IsKnownBack (relayed lab H m c h r) → ComesInTime H q m b x later 2
+module _ (h : NativeNode) (c : ClientNode) (the : NextPacket (native h) (client c)) where
+  open the use {lab, H, is, chained, q, later, n, m, x, g, at, to, sent, fresh}
+
+  backwards : (r : RelayNode) → relay_at lab.topology h.relay ≡ Some r → IsKnownBack (relayed lab H m c h r)
+      → ComesInTime H q m (client c) x later 2
   unfolding relayed
-  backwards h c r same other through s =
+  backwards r through s =
+      let there : Grown lab (q ∷ H) = earlier lab later (q ∷ H) g in
       let w = relayed lab H m c h r in
       let known = and_parts w.trusts w.trusted s.known in
-      let host = at ∙ ap (λ (z : Node). Some z) same in
-      let client_is = to ∙ ap (λ (z : Node). Some z) other in
       let own = address_at lab H m in
       let way : WayIn lab H r.at (nats_of lab c) c.inside (embedded own) =
       asked_along lab H there.1 r.at (nats_of lab c) c.inside (embedded own)
       (enters_by_its_way lab H (now H) r.at (embedded own) c chained
-      (let_in lab H m c r.at (embedded own) client_is (held w.let_in (second_fails w.trusts (not w.let_in) s.let_in known.0)))) in
-      subst (λ (z : Node). ComesInTime H q m z x later 2) (sym other) (back.in_time (record {
+      (let_in lab H m c r.at (embedded own) to (held w.let_in (second_fails w.trusts (not w.let_in) s.let_in known.0)))) in
+      back.in_time (record {
         lab = lab;
         H = H;
         q = q;
@@ -124,21 +124,22 @@ module _ (lab : Lab) (H : List Full) (is : IsTopology lab.topology) (chained : I
         r = r;
         x = x;
         back = record {
-          from = is_from_host lab H q m n c h r x is chained there client_is host through s.settled
-              (subst (λ (z : Node). IsSentNext lab H q n m z x) same sent);
+          from = is_from_host lab H q m n c h r x is chained there to at through s.settled sent;
           trusts = known.0;
         };
-      }) way known.1 later g fresh)
+      }) way known.1 later g fresh
 
 pub two_is_kept : KeepsItsPromise word.Within2
 two_is_kept lab H is chained q later n m a b x g at to said sent fresh = by (said_by lab H n m word.Within2 a b at to said) where
+  the : NextPacket a b
+  the = record { lab = lab; H = H; is = is; chained = chained; q = q; later = later; n = n; m = m; x = x; g = g; at = at; to = to; sent = sent; fresh = fresh }
+
   by : SaidBy lab H n m a b word.Within2 → ComesInTime H q m b x later 2
   by (between_clients c d same other e) = absurd (never_between (two_clients lab H n m c d) (ap is_two e))
-  by (to_native c h r same other through e) = outwards lab H is chained q later n m a b x g at to sent fresh c h r same other through
-      (known_out (relayed lab H n c h r) (ap is_two e))
-  by (from_native h c r same other through e) = either_way (subst (SaysBack (relayed lab H m c h r)) e (says_back (relayed lab H m c h r))) where
-    either_way : IsKnownBack (relayed lab H m c h r) ⊎ PassesTo true false (relayed lab H m c h r) → ComesInTime H q m b x later 2
-    either_way (inl s) = backwards lab H is chained q later n m a b x g at to sent fresh h c r same other through s
-    either_way (inr p) = subst (λ (z : Node). ComesInTime H q m z x later 2) (sym other)
-        (from_host.through lab H is chained q later n m h c x g (at ∙ ap (λ (z : Node). Some z) same) (to ∙ ap (λ (z : Node). Some z) other)
-        (subst (λ (z : Node). IsSentNext lab H q n m z x) same sent) fresh r through true false p)
+  by (to_native c h r same other through e) = subst (λ (z : Node). ComesInTime H q m z x later 2) (sym other)
+      (outwards c h (of_nodes the same other) r through (known_out (relayed lab H n c h r) (ap is_two e)))
+  by (from_native h c r same other through e) = subst (λ (z : Node). ComesInTime H q m z x later 2) (sym other)
+      (either_way (subst (SaysBack (relayed lab H m c h r)) e (says_back (relayed lab H m c h r)))) where
+        either_way : IsKnownBack (relayed lab H m c h r) ⊎ PassesTo true false (relayed lab H m c h r) → ComesInTime H q m (client c) x later 2
+        either_way (inl s) = backwards h c (of_nodes the same other) r through s
+        either_way (inr p) = from_host.through h c (of_nodes the same other) r through true false p

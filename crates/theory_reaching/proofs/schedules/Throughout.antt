@@ -21,6 +21,16 @@ module _ (P : Item → Type 0) where
 
 -- THE SCHEDULE
 
+-- after G the record p delivers an item, which is y
+pub record OneDelivery (lab : Lab) : Type 0 where
+  pub G : List Full
+  pub p : Full
+  pub serial : ℕ
+  pub y : Item
+  pub g : Grown lab (p ∷ G)
+  pub delivered : p.delivered ≡ Some serial
+  pub at : slice_get (wire G) serial ≡ Some y
+
 -- P is so of each entry, and J of the records so far
 module _ (lab : Lab) (H : List Full) (q : Full) (m : ℕ) (b : Node) (x : List ℕ) (P : Item → Type 0) (J : List Full → Type 0) where
   -- of each entry from the first one on that the packet's record made
@@ -34,8 +44,7 @@ module _ (lab : Lab) (H : List Full) (q : Full) (m : ℕ) (b : Node) (x : List �
     pub silent : BringsTo m b x p → ⊥
 
   abbrev pub Step : Type 0
-  Step = (G : List Full) (p : Full) (k : ℕ) (y : Item) → Grown lab (p ∷ G) → HasNoFault p → p.delivered ≡ Some k → slice_get (wire G) k ≡ Some y
-      → P y → J G → Goes G p
+  Step = (this : OneDelivery lab) → HasNoFault this.p → P this.y → J this.G → Goes this.G this.p
 
   -- the entries that the packet's record made
   pub at_first : q.first ≡ length (wire H) → AllByRecursion P (items_of q) → Each (q ∷ H)
@@ -52,8 +61,7 @@ module _ (lab : Lab) (H : List Full) (q : Full) (m : ℕ) (b : Node) (x : List �
 
   -- the same of an entry that the packet's record made, or one of the later ones
   abbrev pub StepOfNew : Type 0
-  StepOfNew = (G : List Full) (p : Full) (k : ℕ) (y : Item) → q.first ≤ k → Grown lab (p ∷ G) → HasNoFault p → p.delivered ≡ Some k
-      → slice_get (wire G) k ≡ Some y → P y → J G → Goes G p
+  StepOfNew = (this : OneDelivery lab) → q.first ≤ this.serial → HasNoFault this.p → P this.y → J this.G → Goes this.G this.p
 
   module _ (step : StepOfNew) (number : q.first ≡ length (wire H)) (all : AllByRecursion P (items_of q)) (first : J (q ∷ H)) where
     record Holds (later : List Full) : Type 0 where
@@ -75,8 +83,15 @@ module _ (lab : Lab) (H : List Full) (q : Full) (m : ℕ) (b : Node) (x : List �
           × (get_or (wire (later ++ q ∷ H)) fresh.0.number y ≡ y))
           ⊎ ((length (wire (later ++ q ∷ H)) ≤ fresh.0.number) × (slice_get (wire (later ++ q ∷ H)) fresh.0.number ≡ None)) → Holds (p ∷ later)
       by before (inl there) =
-          let goes = step (later ++ q ∷ H) p fresh.0.number there.0 fresh.0.new g fresh.0.sound fresh.0.delivered there.2
-          (before.each fresh.0.number there.0 fresh.0.new there.2) before.kept in
+          let goes = step (record {
+            G = later ++ q ∷ H;
+            p = p;
+            serial = fresh.0.number;
+            y = there.0;
+            g = g;
+            delivered = fresh.0.delivered;
+            at = there.2;
+          }) fresh.0.new fresh.0.sound (before.each fresh.0.number there.0 fresh.0.new there.2) before.kept in
           record { each = more (later ++ q ∷ H) p goes.made before.each; kept = goes.stays; silent = silent before goes.silent }
       by before (inr past) = let beyond : length (wire (later ++ q ∷ H)) ≤ fresh.0.number = past.0 in absurd (omega (arith, beyond, high))
 
@@ -85,4 +100,4 @@ module _ (lab : Lab) (H : List Full) (q : Full) (m : ℕ) (b : Node) (x : List �
 
   pub none_brings : Step → q.first ≡ length (wire H) → AllByRecursion P (items_of q) → J (q ∷ H) → (later : List Full) → Grown lab (later ++ q ∷ H)
       → AreFresh q later → SomeBrings m b x later → ⊥
-  none_brings step = none_of_new_brings (λ G p k y new g sound delivered at is holds. step G p k y g sound delivered at is holds)
+  none_brings step = none_of_new_brings (λ this new sound is holds. step this sound is holds)

@@ -27,9 +27,21 @@ one_item H q x n same items = (
   ap (λ (xs : List Item). length (wire H ++ xs)) items ∙ one_longer (wire H) x ∙ ap suc (sym same),
 )
 
-module _ (lab : Lab) (H : List Full) (q : Full) (one two : Item) (number : q.first ≡ length (wire H)) (makes : items_of q ≡ one ∷ [])
-    (goes_on : (p : Full) → Grown lab (p ∷ q ∷ H) → HasNoFault p → p.delivered ≡ Some q.first → slice_get (wire (q ∷ H)) q.first ≡ Some one
-    → items_of p ≡ two ∷ []) where
+-- after H the record q makes one item alone, and the record that delivers it the second one
+pub record OneMakesTwo : Type 0 where
+  pub lab : Lab
+  pub H : List Full
+  pub q : Full
+  pub one : Item
+  pub two : Item
+  pub number : q.first ≡ length (wire H)
+  pub makes : items_of q ≡ one ∷ []
+  pub goes_on : (p : Full) → Grown lab (p ∷ q ∷ H) → HasNoFault p → p.delivered ≡ Some q.first → slice_get (wire (q ∷ H)) q.first ≡ Some one
+      → items_of p ≡ two ∷ []
+
+module _ (the : OneMakesTwo) where
+  open the use {lab, H, q, one, two, number, makes, goes_on}
+
   first_one : (slice_get (wire (q ∷ H)) q.first ≡ Some one) × (length (wire (q ∷ H)) ≡ suc q.first)
   first_one = one_item H q one q.first number makes
 

@@ -7,7 +7,7 @@ use Rattle.legal.specs.Deliveries.{to_nobody}
 use Rattle.theory_first_packets.proofs.HandedIn as handed_in
 use Rattle.theory_reaching.proofs.strays.Stray.{IsNothing, at_client, not_its_own, at_another, at_relay}
 use Rattle.theory_reaching.proofs.strays.StrayAtServer.{at_server}
-use Rattle.theory_reaching.proofs.schedules.Throughout.{one_of, Goes, none_brings}
+use Rattle.theory_reaching.proofs.schedules.Throughout.{one_of, Goes, none_brings, OneDelivery}
 use Rattle.theory_reaching.proofs.to_native.Unanswered.{brings_nothing}
 use Rattle.theory_reaching.proofs.strays.MovedOut as out
 use Rattle.theory_reaching.proofs.strays.MovedOut.{Moving, IsForNobody}
@@ -122,28 +122,27 @@ module _ (the : Moving) where
     silent (nat a) p ends brings = brings
     silent (relay a) p ends brings = brings
 
-    step : (G : List Full) (p : Full) (k : ℕ) (y : Item) → Grown lab (p ∷ G) → p.delivered ≡ Some k → slice_get (wire G) k ≡ Some y → IsIt y
-        → Goes lab H q m b x IsIt Anything G p
-    step G p k y g delivered at stray_item = of_ends (by (deliveries lab G p k g delivered)) where
-      same_item : (u : Item) → slice_get (wire G) k ≡ Some u → u ≡ udp stray_item.src D z
-      same_item u to = ap (λ (o : Option Item). unwrap_or o u) (sym to ∙ at) ∙ stray_item.same
+    step : (this : OneDelivery lab) → IsIt this.y → Goes lab H q m b x IsIt Anything this.G this.p
+    step this stray_item = of_ends (by (deliveries lab this.G this.p this.serial this.g this.delivered)) where
+      same_item : (u : Item) → slice_get (wire this.G) this.serial ≡ Some u → u ≡ udp stray_item.src D z
+      same_item u to = ap (λ (o : Option Item). unwrap_or o u) (sym to ∙ this.at) ∙ stray_item.same
 
       its_made : IsMadeItem (udp stray_item.src D z)
-      its_made = one_of IsMadeItem (wire G) k (udp stray_item.src D z) (at ∙ ap (λ (w : Item). Some w) stray_item.same)
-          (wire_is_made lab G is.rules g.1).wire
+      its_made = one_of IsMadeItem (wire this.G) this.serial (udp stray_item.src D z) (this.at ∙ ap (λ (w : Item). Some w) stray_item.same)
+          (wire_is_made lab this.G is.rules this.g.1).wire
 
-      by : Delivery lab G p k → EndsThere p
-      by (to_node i a u to reached) = at_node G p g stray_item.src stray_item.leaves its_made i a (subst (IsReached lab G p i a) (same_item u to) reached)
-      by (to_nobody u to miss) = at_nobody G p g stray_item.src stray_item.leaves its_made u miss
+      by : Delivery lab this.G this.p this.serial → EndsThere this.p
+      by (to_node i a u to reached) = at_node this.G this.p this.g stray_item.src stray_item.leaves its_made i a (subst (IsReached lab this.G this.p i a) (same_item u to) reached)
+      by (to_nobody u to miss) = at_nobody this.G this.p this.g stray_item.src stray_item.leaves its_made u miss
 
-      of_ends : EndsThere p → Goes lab H q m b x IsIt Anything G p
+      of_ends : EndsThere this.p → Goes lab H q m b x IsIt Anything this.G this.p
       of_ends ends = record {
         made = subst (AllByRecursion IsIt) (sym (ap (filter_map item_in) ends.made)) tt;
         stays = tt;
-        silent = silent b p ends;
+        silent = silent b this.p ends;
       }
 
     -- so no delivery brings it
     pub none_come : (later : List Full) → Grown lab (later ++ q ∷ H) → AreFresh q later → SomeBrings m b x later → ⊥
-    none_come = none_brings lab H q m b x IsIt Anything (λ G p k y g sound delivered at is any. step G p k y g delivered at is)
+    none_come = none_brings lab H q m b x IsIt Anything (λ this sound is any. step this is)
         (handed_in.number lab H q n (client c) x (out.is_handed_in the)) (out.all_stray the) tt

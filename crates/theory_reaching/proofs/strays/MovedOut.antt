@@ -1,6 +1,6 @@
 -- What leaves of a packet that goes at once to where its sender doesn't speak to, or to where nobody answers: that packet, from where such a
 -- datagram leaves, or nothing.
-use Rattle.theory_reaching.proofs.Words.{AllByRecursion, Bool, ClientNode, DATAGRAM_MAX, Did, Ep, Err, Full, Grown, HostHandsIn, Ip6, IsBytes, IsHandedIn, IsTopology, Item, Lab, List, Made, NatRefusal, None, Ok, Option, ReadsPayload, Result, Send, Settings, Some, [], address_at, address_is, ap, armed, by_way, client, client_address, client_journals, client_made, client_settings, crossing_unless, entry_of, false, false≢true, fields_in, filter_map, inl, inr, is_answered, is_at_place, is_big, is_global6, is_link_local, is_on, is_some, is_teredo, item_in, items_of, journal, length, marked, no_ep, node_at, now, or_loss, own_is_teredo, qualified_has_address, refl, send, speaks_to, subst, sym, true, udp, value_written, way_out, way_to, ℕ, ◌∙◌, ◌∷◌, ◌≡◌, ◌≤◌, ◌⊎◌}
+use Rattle.theory_reaching.proofs.Words.{AllByRecursion, Bool, ClientNode, DATAGRAM_MAX, Did, Ep, Err, Full, Grown, HostHandsIn, Ip6, IsBytes, IsHandedIn, IsTopology, Item, Lab, List, Made, NatRefusal, None, Ok, Option, ReadsPayload, Result, Send, Settings, Some, [], address_at, address_is, ap, armed, by_way, client, client_address, client_journals, client_made, client_settings, crossing_unless, entry_of, false, false≢true, fields_in, filter_map, inl, inr, is_at_place, is_big, is_global6, is_link_local, is_on, is_some, is_teredo, item_in, items_of, journal, length, marked, no_ep, node_at, now, or_loss, own_is_teredo, qualified_has_address, refl, send, somebody_answers, speaks_to, subst, sym, true, udp, value_written, way_out, way_to, ℕ, ◌∙◌, ◌∷◌, ◌≡◌, ◌≤◌, ◌⊎◌}
 use Rattle.teredo_node.specs.Journal.{given}
 use Rattle.theory_origins.proofs.FromServers as own_of
 use Rattle.theory_first_packets.proofs.HandedIn as handed_in
@@ -9,7 +9,7 @@ use Rattle.theory_reaching.proofs.entries.StraightOut.{IsOneOrNone}
 
 -- a packet for a host of the IPv6 Internet goes where no server and no relay answers
 pub record IsForNobody (lab : Lab) (D : Ep) (dst : Ip6) : Type 0 where
-  pub unanswered : is_answered lab D ≡ false
+  pub unanswered : somebody_answers lab D ≡ false
   pub native : is_teredo dst ≡ false
   pub global : is_global6 dst ≡ true
 

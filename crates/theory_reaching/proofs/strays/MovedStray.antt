@@ -1,6 +1,6 @@
 -- A datagram that leaves from elsewhere than its packet's source says is a stray, and comes from no client's server. Where nobody answers neither a
 -- server nor a relay is.
-use Rattle.theory_reaching.proofs.Words.{Bool, ClientNode, Ep, HasServer, Ip4, Ip6, IsMadeItem, Lab, List, Node, Ok, Option, ServerNode, Some, [], address_at, answers_at, ap, client, client_is_there, client_settings, embedded, false, false_from_ne_true, false≢true, has_address, inl, inr, is_answered, is_from, is_from_server, is_link_local, is_some, is_teredo, leaves_at, list_any, nat, nat_has, nat_set_up, node_at, nodes, now, or_left, or_right, outermost, same_ep, same_ep-self, same_ep-true, server, server_ep, set_up_past, slice_get, speaks_to, subst, suc, sym, true, udp, unwrap_or, way_to, zero, ℕ, ◌||◌, ◌∙◌, ◌∷◌, ◌≡◌, ◌⊎◌}
+use Rattle.theory_reaching.proofs.Words.{Bool, ClientNode, Ep, HasServer, Ip4, Ip6, IsMadeItem, Lab, List, Node, Ok, Option, ServerNode, Some, [], address_at, answers_at, ap, client, client_is_there, client_settings, embedded, false, false_from_ne_true, false≢true, has_address, inl, inr, is_from, is_from_server, is_link_local, is_some, is_teredo, leaves_at, list_any, nat, nat_has, nat_set_up, node_at, nodes, now, or_left, or_right, outermost, same_ep, same_ep-self, same_ep-true, server, server_ep, set_up_past, slice_get, somebody_answers, speaks_to, subst, suc, sym, true, udp, unwrap_or, way_to, zero, ℕ, ◌||◌, ◌∙◌, ◌∷◌, ◌≡◌, ◌⊎◌}
 use Rattle.theory_reaching.proofs.strays.Stray.{IsStray}
 use Rattle.theory_reaching.proofs.Tests.{either}
 use Rattle.theory_reaching.proofs.strays.MovedOut as out
@@ -77,8 +77,8 @@ module _ (lab : Lab) (D : Ep) where
   any_at f (z ∷ xs) zero a e h = or_left (f z) (list_any f xs) (ap (λ (o : Option Node). f (unwrap_or o z)) e ∙ h)
   any_at f (z ∷ xs) (suc i) a e h = or_right (f z) (list_any f xs) (any_at f xs i a e h)
 
-  pub nobody_there : (i : ℕ) (a : Node) → node_at lab.topology i ≡ Some a → answers_at D a ≡ true → is_answered lab D ≡ false → ⊥
-  unfolding is_answered
+  pub nobody_there : (i : ℕ) (a : Node) → node_at lab.topology i ≡ Some a → answers_at D a ≡ true → somebody_answers lab D ≡ false → ⊥
+  unfolding somebody_answers
   nobody_there i a at there none = false≢true (sym none ∙ any_at (answers_at D) (nodes lab.topology) i a at there)
 
   pub of_server : (b : ServerNode) → (D ≡ server_ep b.primary) ⊎ (D ≡ server_ep b.secondary) → answers_at D (server b) ≡ true

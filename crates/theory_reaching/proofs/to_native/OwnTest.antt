@@ -92,9 +92,17 @@ module _ (the : AskingHost) where
         ∙ ap (map (λ (z : Send). sent (udp (embedded own) z.to z.bytes))) sends)
 
     test_comes : (later : List Full) → Grown lab (later ++ q ∷ H) → AreFresh q later → ComesInTime H q m (native h) test later 2
-    test_comes = second_brings lab H q one (six None test) (out.number the) makes
-        (λ p g sound delivered at. ap (filter_map item_in) (items.made_by_server the (q ∷ H) p q.first one g delivered at refl))
-        m (native h) test (λ s p g sound delivered at again to. brought lab (p ∷ q ∷ H) s (suc q.first) m h test
+    test_comes = second_brings (record {
+      lab = lab;
+      H = H;
+      q = q;
+      one = one;
+      two = six None test;
+      number = out.number the;
+      makes = makes;
+      goes_on = λ p g sound delivered at. ap (filter_map item_in) (items.made_by_server the
+          (record { G = q ∷ H; p = p; serial = q.first; y = one; g = g; delivered = delivered; at = at }) refl);
+    }) m (native h) test (λ s p g sound delivered at again to. brought lab (p ∷ q ∷ H) s (suc q.first) m h test
         (items.goes_to_host the (p ∷ q ∷ H)) g again to)
 
   -- EACH PACKET

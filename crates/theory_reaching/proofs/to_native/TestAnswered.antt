@@ -1,9 +1,9 @@
 -- What the delivery of an answer to a client's test makes at the relay, which trusts the client.
-use Rattle.theory_reaching.proofs.Words.{AllByRecursion, Arrival, Bool, Delivery, Entry, Full, Grown, Input, Ip6, IsPacketItem, Item, List, Made, Option, Send, Some, [], address_at, ap, armed, arrival, deliveries, embedded, entry_input, false, fields_in, filter_map, from_six, is_at_place, is_packet, is_some, item_in, journal, known, lost, made_outright, no_ep, node_is_reached, now, outright, own_ep, refl, relay, relay_mentions, relay_settings, relay_six, send, sent, six, six_made, slice_get, subst, sym, true, udp, wire, wire_is_made, ℕ, ◌++◌, ◌+◌, ◌∙◌, ◌∷◌, ◌≡◌}
+use Rattle.theory_reaching.proofs.Words.{AllByRecursion, Arrival, Bool, Delivery, Entry, Input, Ip6, IsPacketItem, Item, List, Made, Option, Send, Some, [], address_at, ap, armed, arrival, deliveries, embedded, entry_input, false, fields_in, filter_map, from_six, is_at_place, is_packet, is_some, item_in, journal, known, lost, made_outright, no_ep, node_is_reached, now, outright, own_ep, refl, relay, relay_mentions, relay_settings, relay_six, send, sent, six, six_made, subst, sym, true, udp, wire, wire_is_made, ℕ, ◌++◌, ◌+◌, ◌∙◌, ◌∷◌, ◌≡◌}
 use Rattle.theory_reaching.proofs.relays.RelayEnds.{relay_there}
 use Rattle.theory_reaching.proofs.entries.TestRelayed.{RelaysIt, relays_it}
 use Rattle.theory_reaching.proofs.to_native.TestsOut.{AskingHost, IsTestItem, returning}
-use Rattle.theory_reaching.proofs.schedules.Throughout.{one_of}
+use Rattle.theory_reaching.proofs.schedules.Throughout.{one_of, OneDelivery}
 
 module _ (the : AskingHost) where
   open the use {lab, H, q, n, m, c, h, r, x, asks}
@@ -14,15 +14,16 @@ module _ (the : AskingHost) where
   abbrev AreIt : List Made → Type 0
   AreIt ms = AllByRecursion (IsTestItem the) (filter_map item_in ms)
 
-  module _ (G : List Full) (p : Full) (k : ℕ) (y : Item) (g : Grown lab (p ∷ G)) (delivered : p.delivered ≡ Some k)
-      (at : slice_get (wire G) k ≡ Some y) where
-    abbrev delivery : Delivery lab G p k
-    delivery = deliveries lab G p k g delivered
+  module _ (this : OneDelivery lab) where
+    open this use {G, p, serial, y, g, delivered, at}
+
+    abbrev delivery : Delivery lab G p serial
+    delivery = deliveries lab G p serial g delivered
 
     module _ (z : List ℕ) (is : y ≡ six (Some h.relay) z) (to_own : (fields_in z).dst ≡ own)
         (trusted : is_some (known (relay_mentions (journal h.relay G).entries) (now G) own).trusted ≡ true) where
       pub to_relay : Arrival lab G p h.relay (relay r) (six (Some h.relay) z)
-      to_relay = arrival lab G p k delivery (record {
+      to_relay = arrival lab G p serial delivery (record {
         number = h.relay;
         node = relay r;
         item = six (Some h.relay) z;
@@ -32,7 +33,7 @@ module _ (the : AskingHost) where
       })
 
       is_one : is_packet z ≡ true
-      is_one = one_of IsPacketItem (wire G) k (six (Some h.relay) z) (at ∙ ap (λ (u : Item). Some u) is)
+      is_one = one_of IsPacketItem (wire G) serial (six (Some h.relay) z) (at ∙ ap (λ (u : Item). Some u) is)
           (wire_is_made lab G asks.are.rules g.1).packets
 
       abbrev pub done : Entry

@@ -1,10 +1,10 @@
 -- What each delivery on the way of a client's test makes: at the client's server, and at the host.
-use Rattle.theory_reaching.proofs.Words.{AllByRecursion, Arrival, Delivery, Fields, Full, Grown, Ip6, IsIp6, IsMadeItem, Item, List, Made, None, ReadsPayload, ServerNode, Some, Step, [], address_at, ap, armed, arrival, arrived, deliveries, embedded, fields_in, filter_map, is_teredo, item_in, native, native_answers, native_echoes, node_is_reached, nonce_from, now, outright, own_ep, packet_bytes, packet_is_payload, reaches, refl, reply_fields, route, same_ip6, same_ip6-self, sent, server, server_ep, side_at, six, six_made, slice_get, subst, sym, take_rest, test_reads, to_server, udp, value_written, wire, wire_is_made, words, ℕ, ◌++◌, ◌∙◌, ◌∷◌, ◌≡◌}
+use Rattle.theory_reaching.proofs.Words.{AllByRecursion, Arrival, Delivery, Fields, Full, Ip6, IsIp6, IsMadeItem, Item, List, Made, None, ReadsPayload, ServerNode, Some, Step, [], address_at, ap, armed, arrival, arrived, deliveries, embedded, fields_in, filter_map, is_teredo, item_in, native, native_answers, native_echoes, node_is_reached, nonce_from, now, outright, own_ep, packet_bytes, packet_is_payload, reaches, refl, reply_fields, route, same_ip6, same_ip6-self, sent, server, server_ep, side_at, six, six_made, subst, sym, take_rest, test_reads, to_server, udp, value_written, wire, wire_is_made, words, ℕ, ◌++◌, ◌∙◌, ◌∷◌, ◌≡◌}
 use Rattle.theory_first_natives.proofs.tables.NativeReads as echoes
 use Rattle.theory_reaching.proofs.relays.RelayEnds.{end, native_keeps}
 use Rattle.theory_reaching.proofs.to_native.TestPassed.{gives}
 use Rattle.theory_reaching.proofs.to_native.TestsOut.{AskingHost, IsTestItem, tested, answering, server_row, test, teredo}
-use Rattle.theory_reaching.proofs.schedules.Throughout.{one_of}
+use Rattle.theory_reaching.proofs.schedules.Throughout.{one_of, OneDelivery}
 use Rattle.theory_reaching.proofs.relays.Relays.{RelayedHosts}
 
 module _ (the : AskingHost) where
@@ -49,16 +49,17 @@ module _ (the : AskingHost) where
         destination = ap (λ (f : Fields). same_ip6 f.dst h.six) read.fields ∙ same_ip6-self h.six;
       })
 
-  module _ (G : List Full) (p : Full) (k : ℕ) (y : Item) (g : Grown lab (p ∷ G)) (delivered : p.delivered ≡ Some k)
-      (at : slice_get (wire G) k ≡ Some y) where
-    abbrev delivery : Delivery lab G p k
-    delivery = deliveries lab G p k g delivered
+  module _ (this : OneDelivery lab) where
+    open this use {G, p, serial, y, g, delivered, at}
+
+    abbrev delivery : Delivery lab G p serial
+    delivery = deliveries lab G p serial g delivered
 
     -- AT THE CLIENT'S SERVER
 
     module _ (is : y ≡ udp (embedded own) (server_ep row.primary) its_test) where
       pub to_its_server : Arrival lab G p c.server (server row) (udp (embedded own) (server_ep row.primary) its_test)
-      to_its_server = arrival lab G p k delivery (record {
+      to_its_server = arrival lab G p serial delivery (record {
         number = c.server;
         node = server row;
         item = udp (embedded own) (server_ep row.primary) its_test;
@@ -68,7 +69,7 @@ module _ (the : AskingHost) where
       })
 
       made_item : IsMadeItem (udp (embedded own) (server_ep row.primary) its_test)
-      made_item = one_of IsMadeItem (wire G) k (udp (embedded own) (server_ep row.primary) its_test) (at ∙ ap (λ (z : Item). Some z) is)
+      made_item = one_of IsMadeItem (wire G) serial (udp (embedded own) (server_ep row.primary) its_test) (at ∙ ap (λ (z : Item). Some z) is)
           (wire_is_made lab G asks.are.rules g.1).wire
 
       reads : ReadsPayload (value_written None None test_fields) its_test
@@ -95,7 +96,7 @@ module _ (the : AskingHost) where
 
     module _ (is : y ≡ six None its_test) where
       pub to_host : Arrival lab G p m (native h) (six None its_test)
-      to_host = arrival lab G p k delivery (record {
+      to_host = arrival lab G p serial delivery (record {
         number = m;
         node = native h;
         item = six None its_test;

@@ -62,6 +62,6 @@ module _ (the : AskingHost)
   -- so no delivery brings it
   pub none_come : (later : List Full) → Grown lab (later ++ q ∷ H) → AreFresh q later → SomeBrings m (native h) x later → ⊥
   none_come = none_brings lab H q m (native h) x IsIt (IsShutOff the trusts led no_request)
-      (λ G p i y g sound delivered at is off.
-      step the trusts led no_request G p i y g delivered at off is) (number the)
+      (λ this sound is off.
+      step the trusts led no_request this off is) (number the)
       (all_on_way the) at_first

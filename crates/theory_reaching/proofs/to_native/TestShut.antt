@@ -1,5 +1,5 @@
 -- A delivery on the way of a client's test, where the relay isn't let in to the client: the packet doesn't leave, and nobody is let in.
-use Rattle.theory_reaching.proofs.Words.{AllByRecursion, Comes, Delivery, EntersPast, Full, Grown, Ip6, IsLetIn, IsMissed, Item, Journal, List, Node, Some, WayIn, [], address_at, ap, as_client, asks_at, at_same_moment, comes_or_not, deliveries, each_so, embedded, ends_at, enters_along, enters_by_its_way, false, false≢true, filter_map, is_led_to, is_let_in, is_nat_node, is_reached, is_some, item_in, journal, known, leaves_nats, let_in_too, nat_history, native, nats_of, node_at, now, option_and_then, other_journal, reaches, refl, relay, relay_mentions, route, same_number, server, shut_there, slice_get, still_in, subst, sym, to_client, to_node, to_none, true, udp, wire, with_entry, ℕ, ◌∙◌, ◌∷◌, ◌≡◌}
+use Rattle.theory_reaching.proofs.Words.{AllByRecursion, Comes, Delivery, EntersPast, Full, Ip6, IsLetIn, IsMissed, Item, Journal, List, Node, Some, WayIn, [], address_at, ap, as_client, asks_at, at_same_moment, comes_or_not, deliveries, each_so, embedded, ends_at, enters_along, enters_by_its_way, false, false≢true, filter_map, is_led_to, is_let_in, is_nat_node, is_reached, is_some, item_in, journal, known, leaves_nats, let_in_too, nat_history, native, nats_of, node_at, now, option_and_then, other_journal, reaches, refl, relay, relay_mentions, route, same_number, server, shut_there, still_in, subst, sym, to_client, to_node, to_none, true, udp, with_entry, ℕ, ◌∙◌, ◌∷◌, ◌≡◌}
 use Rattle.legal.specs.Deliveries.{to_nobody}
 use Rattle.theory_reaching.proofs.schedules.WayStays as way_stays
 use Rattle.theory_reaching.proofs.schedules.ApartWays.{entered_before}
@@ -8,7 +8,7 @@ use Rattle.theory_reaching.proofs.relays.RelayEnds.{end, relay_there}
 use Rattle.theory_reaching.proofs.to_native.TestItems.{to_its_server, made_there, to_host, made_at_host}
 use Rattle.theory_reaching.proofs.to_native.TestAnswered.{to_relay, done, still_trusted, made_at_relay}
 use Rattle.theory_reaching.proofs.to_native.TestsOut.{AskingHost, IsTestItem, asking, tested, answering, returning}
-use Rattle.theory_reaching.proofs.schedules.Throughout.{Goes}
+use Rattle.theory_reaching.proofs.schedules.Throughout.{Goes, OneDelivery}
 use Rattle.theory_reaching.proofs.to_native.TestUnlike.{IsNoTest, same_item, silent}
 use Rattle.theory_reaching.proofs.relays.Relays.{RelayedHosts}
 
@@ -52,8 +52,9 @@ module _ (the : AskingHost)
 
   -- A DELIVERY
 
-  module _ (G : List Full) (p : Full) (i : ℕ) (y : Item) (g : Grown lab (p ∷ G)) (delivered : p.delivered ≡ Some i)
-      (at : slice_get (wire G) i ≡ Some y) (off : IsShutOff G) where
+  module _ (this : OneDelivery lab) (off : IsShutOff this.G) where
+    open this use {G, p, serial, y, g, delivered}
+
     abbrev Result : Type 0
     Result = Goes lab H q m (native h) x IsIt IsShutOff G p
 
@@ -75,7 +76,7 @@ module _ (the : AskingHost)
       shut = λ enters. off.shut (entered_before lab G (p ∷ G) (now G) r.at (nats_of lab c) c.inside (embedded own) same (subst (Enters (p ∷ G)) moment enters));
       way = still_in lab G p (record {
         follows = g.0;
-        calm = leaves_nats lab G p i (deliveries lab G p i g delivered);
+        calm = leaves_nats lab G p serial (deliveries lab G p serial g delivered);
         moment = moment;
       }) (asks_at lab c) (nats_of lab c) c.inside (embedded own) off.way;
     }
@@ -85,7 +86,7 @@ module _ (the : AskingHost)
       made = subst (AllByRecursion IsIt) (sym (ap (filter_map item_in) miss.made)) tt;
       stays = stays (journal k G) miss.moment (each_so (λ j _. miss.nats j) (nats_of lab c) (end the_three).nats)
           (miss.journals k) off.trusted;
-      silent = silent the no_request G p i y g delivered at is;
+      silent = silent the no_request this is;
     }
 
     server_in : IsLetIn lab G (now G) (asks_at lab c) (embedded own) c
@@ -101,37 +102,37 @@ module _ (the : AskingHost)
           by (shut_there b out) = false≢true (ap is_reached (sym (to_none lab asks.are.rules G r.at (embedded own) z b out) ∙ goes))
 
     goes_off : (z : List ℕ) → y ≡ udp r.at (embedded own) z → Result
-    goes_off z is = by (deliveries lab G p i g delivered) where
-      by : Delivery lab G p i → Result
+    goes_off z is = by (deliveries lab G p serial g delivered) where
+      by : Delivery lab G p serial → Result
       by (to_node j a u to reached) = absurd (to_no_node z j a (ap (route lab G (now G))
-          (sym (same_item the no_request G p i y g delivered at u to ∙ is)) ∙ reached.leads))
+          (sym (same_item the no_request this u to ∙ is)) ∙ reached.leads))
       by (to_nobody u to miss) = missed (returning z is) u miss
 
     pub step : IsIt y → Result
     step (asking is) =
         let e = end the_three in
-        let d = (to_its_server the G p i y g delivered at is).did in
+        let d = (to_its_server the this is).did in
         record {
-          made = made_there the G p i y g delivered at is;
+          made = made_there the this is;
           stays = stays (journal k G) d.moment (stay c.server (server e.server_row) d.node d.passed e.server_is refl)
               (other_journal lab G p c.server k d.node (server_relay the_three)) off.trusted;
-          silent = silent the no_request G p i y g delivered at (asking is);
+          silent = silent the no_request this (asking is);
         }
     step (tested is) =
-        let d = (to_host the G p i y g delivered at is).did in
+        let d = (to_host the this is).did in
         record {
-          made = made_at_host the G p i y g delivered at is;
+          made = made_at_host the this is;
           stays = stays (journal k G) d.moment (stay m (native h) d.node d.passed asks.are.host_is refl)
               (other_journal lab G p m k d.node (native_relay the_three)) off.trusted;
-          silent = silent the no_request G p i y g delivered at (tested is);
+          silent = silent the no_request this (tested is);
         }
     step (answering z is to_own) =
-        let d = (to_relay the G p i y g delivered at z is to_own off.trusted).did in
+        let d = (to_relay the this z is to_own off.trusted).did in
         record {
-          made = made_at_relay the G p i y g delivered at z is to_own off.trusted;
-          stays = stays (with_entry (journal k G) (done the G p i y g delivered at z is to_own off.trusted)) d.moment
+          made = made_at_relay the this z is to_own off.trusted;
+          stays = stays (with_entry (journal k G) (done the this z is to_own off.trusted)) d.moment
               (stay k (relay r) d.node d.passed relay_node refl) d.later
-              (still_trusted the G p i y g delivered at z is to_own off.trusted);
-          silent = silent the no_request G p i y g delivered at (answering z is to_own);
+              (still_trusted the this z is to_own off.trusted);
+          silent = silent the no_request this (answering z is to_own);
         }
     step (returning z is) = goes_off z is

@@ -23,7 +23,14 @@ module _ (the : SentOut) where
 
   -- so the second delivery brings it to the host
   pub in_time : IsReady lab H n h.relay → (later : List Full) → Grown lab (later ++ q ∷ H) → AreFresh q later → ComesInTime H q m (native h) x later 2
-  in_time ready = second_brings lab H q (udp (embedded own) r.at x) (six None x)
-      (number the) (makes the)
-      (λ p g sound delivered at. ap (filter_map item_in) (passed_on the p g sound delivered at ready)) m (native h) x
+  in_time ready = second_brings (record {
+    lab = lab;
+    H = H;
+    q = q;
+    one = udp (embedded own) r.at x;
+    two = six None x;
+    number = number the;
+    makes = makes the;
+    goes_on = λ p g sound delivered at. ap (filter_map item_in) (passed_on the p g sound delivered at ready);
+  }) m (native h) x
       (λ s p grown sound delivered at again to. brought lab (p ∷ q ∷ H) s (suc q.first) m h x (goes_there (p ∷ q ∷ H)) grown again to)

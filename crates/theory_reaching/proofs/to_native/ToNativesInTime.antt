@@ -1,6 +1,6 @@
 -- `within 6` and `within 9` to a native host, and so of any two hosts: the packet comes by then, past the client's test and, where the
 -- relay doesn't know the client, past the relay's bubble.
-use Rattle.theory_reaching.proofs.Words.{AreFresh, Bool, BringsToNative, BringsWithin, ClientNode, ComesInTime, ComesWithin, Full, Grown, HostHandsIn, Ip6, IsChained, IsPromised, IsSentNext, IsTopology, KeepsFromNatives, KeepsItsPromise, Lab, List, NativeNode, Node, Reach, ReachesNative, RelayNode, Some, TwoClients, address_at, address_of, ap, between_clients_lines, between_clients_row, client, false≢true, most_deliveries, native, next_to_native_arrives, node_at, refl, relay_at, relayed, subst, sym, to_native_row, true, two_clients, within_so, ℕ, ◌++◌, ◌∙◌, ◌∷◌, ◌≡◌}
+use Rattle.theory_reaching.proofs.Words.{Bool, BringsToNative, BringsWithin, ClientNode, ComesInTime, ComesWithin, Full, HostHandsIn, Ip6, IsPromised, IsSentNext, KeepsFromNatives, KeepsItsPromise, Lab, List, NativeNode, Node, Reach, ReachesNative, RelayNode, Some, TwoClients, address_at, address_of, ap, between_clients_lines, between_clients_row, client, false≢true, most_deliveries, native, next_to_native_arrives, refl, relay_at, relayed, subst, sym, to_native_row, true, two_clients, within_so, ℕ, ◌∙◌, ◌∷◌, ◌≡◌}
 use Rattle.theory_settled.proofs.Earlier.{earlier}
 use Rattle.theory_reaching.specs.declared.word.Reach.TheVariants as word
 use Rattle.theory_reaching.proofs.from_native.FromNativesInTime as from_natives
@@ -8,6 +8,7 @@ use Rattle.theory_reaching.proofs.Lines.{which_held}
 use Rattle.theory_reaching.proofs.Pairs.{SaidBy, between_clients, to_native, from_native, said_by}
 use Rattle.theory_reaching.proofs.from_native.NativeMayMeetByWord.{is_nine, is_tested}
 use Rattle.theory_reaching.proofs.to_native.NativeReachedByWord.{PassesOut, passes_out, native_reached}
+use Rattle.theory_reaching.proofs.NextPacket.{NextPacket, of_nodes}
 
 -- what comes is brought
 brings_within : (most m : ℕ) (h : NativeNode) (x : List ℕ) (later : List Full) → ComesWithin most m x later → BringsWithin most m (native h) x later
@@ -19,14 +20,14 @@ never_between a e = which_held is_tested (between_clients_lines a) word.Within5 
 
 -- THE WORDS
 
-module _ (lab : Lab) (H : List Full) (is : IsTopology lab.topology) (chained : IsChained lab) (q : Full) (later : List Full)
-    (n m : ℕ) (x : List ℕ) (g : Grown lab (later ++ q ∷ H)) (fresh : AreFresh q later) where
+module _ (c : ClientNode) (h : NativeNode) (the : NextPacket (client c) (native h)) where
+  open the use {lab, H, is, chained, q, later, n, m, x, g, at, to, sent, fresh}
+
   -- to a native host through its relay
-  through : (c : ClientNode) (h : NativeNode) (r : RelayNode) → node_at lab.topology n ≡ Some (client c) → node_at lab.topology m ≡ Some (native h)
-      → IsSentNext lab H q n m (client c) x → relay_at lab.topology h.relay ≡ Some r → (nine : Bool) → PassesOut nine (relayed lab H n c h r)
+  through : (r : RelayNode) → relay_at lab.topology h.relay ≡ Some r → (nine : Bool) → PassesOut nine (relayed lab H n c h r)
       → ComesInTime H q m (native h) x later (most_deliveries nine)
   unfolding relayed
-  through c h r at to sent by_relay nine p =
+  through r by_relay nine p =
       let comes = next_to_native_arrives lab H q later is chained g n m h.relay c h r (address_at lab H n) x (record {
         nodes = native_reached lab H (earlier lab later (q ∷ H) g).1 n m c h r at to by_relay nine p;
         handed = subst (λ (z : Ip6). HostHandsIn q n (address_at lab H n) z x) (ap (address_of lab H m) to) sent.handed;
@@ -36,10 +37,9 @@ module _ (lab : Lab) (H : List Full) (is : IsTopology lab.topology) (chained : I
         enough = λ _ many. brings_within (most_deliveries (relayed lab H n c h r).asks) m h x later (comes.enough many);
       })
 
-  out : (c : ClientNode) (h : NativeNode) (r : RelayNode) (said : Reach) → is_tested said ≡ true → node_at lab.topology n ≡ Some (client c)
-      → node_at lab.topology m ≡ Some (native h) → IsSentNext lab H q n m (client c) x → relay_at lab.topology h.relay ≡ Some r
+  out : (r : RelayNode) (said : Reach) → is_tested said ≡ true → relay_at lab.topology h.relay ≡ Some r
       → to_native_row (relayed lab H n c h r) ≡ said → ComesInTime H q m (native h) x later (most_deliveries (is_nine said))
-  out c h r said tested at to sent by_relay w = through c h r at to sent by_relay (is_nine said)
+  out r said tested by_relay w = through r by_relay (is_nine said)
       (subst (λ (z : Reach). PassesOut (is_nine z) (relayed lab H n c h r)) w (passes_out (relayed lab H n c h r) (ap is_tested w ∙ tested)))
 
 -- that is what the words promise
@@ -52,12 +52,14 @@ promised lab H q m a b x later _ tested comes = absurd (false≢true tested)
 -- so a word that is kept of packets from native hosts is kept
 kept : (said : Reach) → is_tested said ≡ true → KeepsFromNatives said → KeepsItsPromise said
 kept said tested back lab H is chained q later n m a b x g at to is_said sent fresh = by (said_by lab H n m said a b at to is_said) where
+  the : NextPacket a b
+  the = record { lab = lab; H = H; is = is; chained = chained; q = q; later = later; n = n; m = m; x = x; g = g; at = at; to = to; sent = sent; fresh = fresh }
+
   by : SaidBy lab H n m a b said → IsPromised lab H q m a b x later said
   by (between_clients c d same other w) = absurd (never_between (two_clients lab H n m c d) (ap is_tested w ∙ tested))
   by (to_native c h r same other by_relay w) = subst (λ (z : Node). IsPromised lab H q m a z x later said) (sym other)
       (promised lab H q m a (native h) x later said tested
-      (out lab H is chained q later n m x g fresh c h r said tested (at ∙ ap (λ (z : Node). Some z) same) (to ∙ ap (λ (z : Node). Some z) other)
-      (subst (λ (z : Node). IsSentNext lab H q n m z x) same sent) by_relay w))
+      (out c h (of_nodes the same other) r said tested by_relay w))
   by (from_native h c r same other by_relay w) = subst (λ (z : Node). IsPromised lab H q m z b x later said) (sym same)
       (subst (λ (z : Node). IsPromised lab H q m (native h) z x later said) (sym other)
       (back lab H is chained q later n m h c x g (at ∙ ap (λ (z : Node). Some z) same) (to ∙ ap (λ (z : Node). Some z) other) is_said

@@ -1,6 +1,6 @@
 -- A relay that must ask for a client and gets no answer: it may not ask, or the client doesn't answer. Whatever comes to the relay for
 -- the client stays there.
-use Rattle.theory_reaching.proofs.Words.{AllByRecursion, AreFresh, Arrival, Bool, Contains, Delivery, Entry, Full, GivesToHost, Grown, HasNoFault, Input, Ip6, IsCalmNext, IsPacketItem, Item, Journal, List, Made, None, Option, ReadsPayload, RelaySettings, Send, ServerNode, Settings, Some, SomeBrings, Span, Value, WayIn, [], address_at, ap, arith, armed, arrival, as_client, asks_at, at_same_moment, bubble_bytes, bubble_message, bubble_of, bubble_small, by_way, client, client_in, client_settings, deliveries, each_so, embedded, enters_along, entry_input, false, false≢true, fields_in, filter_map, forwarded, forwarded_reads_back, from_six, has_cone, has_room, inl, inr, is_advert, is_barred, is_let_in, is_packet, is_some, item_in, items_of, journal, known, length, mentions, nats_of, no_ep, node_at, node_is_reached, now, option_and_then, outright, own_ep, part_of, refl, relay, relay_mentions, relay_settings, relay_six, server, server_ep, six, six_made, slice_get, subst, sym, to_client, to_server, true, udp, value_written, way_out, wire, wire_is_made, with_entry, words, ℕ, ◌++◌, ◌<◌, ◌∙◌, ◌∷◌, ◌≡◌, ◌⊎◌}
+use Rattle.theory_reaching.proofs.Words.{AllByRecursion, AreFresh, Arrival, Bool, Contains, Delivery, Entry, Full, GivesToHost, Grown, HasNoFault, Input, Ip6, IsCalmNext, IsPacketItem, Item, Journal, List, Made, None, Option, ReadsPayload, RelaySettings, Send, ServerNode, Settings, Some, SomeBrings, Span, Value, WayIn, [], address_at, ap, arith, armed, arrival, as_client, asks_at, at_same_moment, bubble_bytes, bubble_message, bubble_of, bubble_small, by_way, client, client_in, client_settings, deliveries, each_so, embedded, enters_along, entry_input, false, false≢true, fields_in, filter_map, forwarded, forwarded_reads_back, from_six, has_cone, has_room, inl, inr, is_advert, is_barred, is_let_in, is_packet, is_some, item_in, items_of, journal, known, length, mentions, nats_of, no_ep, node_at, node_is_reached, now, option_and_then, outright, own_ep, part_of, refl, relay, relay_mentions, relay_settings, relay_six, server, server_ep, six, six_made, subst, sym, to_client, to_server, true, udp, value_written, way_out, wire, wire_is_made, with_entry, words, ℕ, ◌++◌, ◌<◌, ◌∙◌, ◌∷◌, ◌≡◌, ◌⊎◌}
 use Rattle.theory_first_packets.proofs.tables.AtServer as at_server
 use Rattle.theory_reaching.proofs.entries.ClientDeaf.{IsClosed, IsDeaf, deaf}
 use Rattle.theory_reaching.proofs.entries.RelayAsks.{NoCone, Asks, asks}
@@ -11,7 +11,7 @@ use Rattle.theory_reaching.proofs.relays.RelayMade.{each_made}
 use Rattle.theory_reaching.proofs.from_native.RelayTells.{may_tell, its_bubble, from_its_server, its_way}
 use Rattle.theory_reaching.proofs.relays.NodesApart.{relay_client, client_relay, client_native, relay_native, server_client, server_relay, server_native}
 use Rattle.theory_reaching.proofs.relays.Relays.{RelayedHosts}
-use Rattle.theory_reaching.proofs.schedules.Throughout.{one_of, Goes, none_brings}
+use Rattle.theory_reaching.proofs.schedules.Throughout.{one_of, Goes, none_brings, OneDelivery}
 
 -- a record that hands nothing over brings nothing
 pub brings_nothing : (p : Full) (n : ℕ) (x : List ℕ) → p.handed ≡ None → p.late ≡ [] → GivesToHost n x p → ⊥
@@ -95,16 +95,17 @@ module _ (the : RelayedHosts) (hushed : Bool) (plain : hushed ≡ false → has_
     pub native : p.node ≡ Some m → ⊥
     pub client : (x : List ℕ) → GivesToHost n x p → ⊥
 
-  module _ (G : List Full) (p : Full) (i : ℕ) (y : Item) (g : Grown lab (p ∷ G)) (sound : HasNoFault p) (delivered : p.delivered ≡ Some i)
-      (at : slice_get (wire G) i ≡ Some y) (unheard : IsUnheard G) where
-    abbrev delivery : Delivery lab G p i
-    delivery = deliveries lab G p i g delivered
+  module _ (this : OneDelivery lab) (sound : HasNoFault this.p) (unheard : IsUnheard this.G) where
+    open this use {G, p, serial, y, g, delivered, at}
+
+    abbrev delivery : Delivery lab G p serial
+    delivery = deliveries lab G p serial g delivered
 
     -- AT THE RELAY
 
     module _ (z : List ℕ) (is : y ≡ six (Some h.relay) z) (to_own : (fields_in z).dst ≡ own) where
       to_relay : Arrival lab G p k (relay r) (six (Some h.relay) z)
-      to_relay = arrival lab G p i delivery (record {
+      to_relay = arrival lab G p serial delivery (record {
         number = k;
         node = relay r;
         item = six (Some h.relay) z;
@@ -113,7 +114,7 @@ module _ (the : RelayedHosts) (hushed : Bool) (plain : hushed ≡ false → has_
       })
 
       is_one : is_packet z ≡ true
-      is_one = one_of IsPacketItem (wire G) i (six (Some h.relay) z) (at ∙ ap (λ (u : Item). Some u) is) (wire_is_made lab G are.rules g.1).packets
+      is_one = one_of IsPacketItem (wire G) serial (six (Some h.relay) z) (at ∙ ap (λ (u : Item). Some u) is) (wire_is_made lab G are.rules g.1).packets
 
       abbrev s : RelaySettings
       s = relay_settings lab.topology k r
@@ -182,7 +183,7 @@ module _ (the : RelayedHosts) (hushed : Bool) (plain : hushed ≡ false → has_
 
     module _ (may : hushed ≡ false) (is : y ≡ udp r.at (server_ep row.primary) (bubble_bytes r.six own)) where
       to_its_server : Arrival lab G p c.server (server row) (udp r.at (server_ep row.primary) (bubble_bytes r.six own))
-      to_its_server = arrival lab G p i delivery (record {
+      to_its_server = arrival lab G p serial delivery (record {
         number = c.server;
         node = server row;
         item = udp r.at (server_ep row.primary) (bubble_bytes r.six own);
@@ -217,7 +218,7 @@ module _ (the : RelayedHosts) (hushed : Bool) (plain : hushed ≡ false → has_
       setup = client_settings lab.topology c
 
       to_the_client : Arrival lab G p n (client c) (udp (server_ep row.primary) (embedded own) z)
-      to_the_client = arrival lab G p i delivery (record {
+      to_the_client = arrival lab G p serial delivery (record {
         number = n;
         node = client c;
         item = udp (server_ep row.primary) (embedded own) z;
@@ -270,6 +271,6 @@ module _ (the : RelayedHosts) (hushed : Bool) (plain : hushed ≡ false → has_
   pub none_come_to_client : (q : Full) (x : List ℕ) → q.first ≡ length (wire H) → AllByRecursion IsVain (items_of q) → IsUnheard (q ∷ H)
       → NoneComeToClient q x
   none_come_to_client q x number all first = none_brings lab H q n (client c) x IsVain IsUnheard
-      (λ G p i y g sound delivered at is shut. of (step G p i y g sound delivered at shut is)) number all first where
+      (λ this sound is shut. of (step this sound shut is)) number all first where
         of : {G : List Full} {p : Full} → Ends G p → Goes lab H q n (client c) x IsVain IsUnheard G p
         of ends = record { made = ends.made; stays = ends.stays; silent = ends.client x }

@@ -1,6 +1,6 @@
 -- A client's packet for a native host that isn't fresh, where the relay must ask for the client and gets no answer: the reply to the
 -- client's test stays at the relay, so the packet never leaves.
-use Rattle.theory_reaching.proofs.Words.{AreFresh, Bool, Full, Grown, HasNoFault, Ip6, Item, Journal, List, None, PEERS_MAX, Send, Settings, Some, SomeBrings, [], address_at, alone, and_left, ap, armed, at_same_moment, by_way, client_journals, client_out, client_settings, each_so, embedded, false, false≢true, fields_in, has_cone, has_room, has_room_for_both, inl, inr, is_barred, is_some, is_teredo, items_of, journal, journal_has_few, known, length, listed, mentions, native, now, other_way, refl, relay_mentions, same_ip6, server_ep, six, sixes_apart, slice_get, subst, sym, true, udp, way_out, wire, with_entry, words, ℕ, ◌&&◌, ◌++◌, ◌∙◌, ◌∷◌, ◌≡◌, ◌≤◌, ◌⊎◌}
+use Rattle.theory_reaching.proofs.Words.{AreFresh, Bool, Full, Grown, HasNoFault, Ip6, Item, Journal, List, None, PEERS_MAX, Send, Settings, SomeBrings, [], address_at, alone, and_left, ap, armed, at_same_moment, by_way, client_journals, client_out, client_settings, each_so, embedded, false, false≢true, fields_in, has_cone, has_room, has_room_for_both, inl, inr, is_barred, is_some, is_teredo, items_of, journal, journal_has_few, known, length, listed, mentions, native, now, other_way, refl, relay_mentions, same_ip6, server_ep, six, sixes_apart, subst, sym, true, udp, way_out, with_entry, words, ℕ, ◌&&◌, ◌++◌, ◌∙◌, ◌∷◌, ◌≡◌, ◌≤◌, ◌⊎◌}
 use Rattle.theory_reaching.proofs.entries.HostAsks.{silent_or_no_room}
 use Rattle.theory_reaching.proofs.to_native.TestItems as at_nodes
 use Rattle.theory_reaching.proofs.to_native.TestItems.{to_its_server, to_host}
@@ -8,7 +8,7 @@ use Rattle.theory_reaching.proofs.to_native.TestUnlike as unlike
 use Rattle.theory_reaching.proofs.to_native.TestUnlike.{IsNoTest}
 use Rattle.theory_reaching.proofs.to_native.TestsOut as out
 use Rattle.theory_reaching.proofs.to_native.TestsOut.{AskingHost, server_row, test, number}
-use Rattle.theory_reaching.proofs.schedules.Throughout.{Goes, none_brings}
+use Rattle.theory_reaching.proofs.schedules.Throughout.{Goes, none_brings, OneDelivery}
 use Rattle.theory_reaching.proofs.to_native.Unanswered.{IsVain, for_client, IsUnheard, step, still_unheard, Untrusted, RelayClosed, ClientClosed, ClosedBy}
 use Rattle.theory_reaching.proofs.schedules.OtherRecords.{stays_at, way_still}
 use Rattle.theory_reaching.proofs.relays.NodesApart.{client_relay, server_client, server_relay, native_relay, native_client}
@@ -40,30 +40,31 @@ module _ (the : AskingHost) (hushed : Bool) (plain : hushed ≡ false → has_co
     tested : y ≡ six None (test the) → IsAsked y
     in_vain : IsAtRelay y → IsAsked y
 
-  module _ (G : List Full) (p : Full) (i : ℕ) (y : Item) (g : Grown lab (p ∷ G)) (sound : HasNoFault p) (delivered : p.delivered ≡ Some i)
-      (at : slice_get (wire G) i ≡ Some y) (shut : IsShut G) where
+  module _ (this : OneDelivery lab) (sound : HasNoFault this.p) (shut : IsShut this.G) where
+    open this use {G, p, y, g}
+
     abbrev Result : Type 0
     Result = Goes lab H q m (native h) x IsAsked IsShut G p
 
     goes_on : IsAsked y → Result
     goes_on (asking is) =
-        let d = to_its_server the G p i y g delivered at is in
+        let d = to_its_server the this is in
         record {
-          made = at_nodes.passed_on the G p i y g delivered at is IsAsked (tested refl);
+          made = at_nodes.passed_on the this is IsAsked (tested refl);
           stays = still_unheard the_three hushed plain G p (record { follows = g.0; calm = d.calm; moment = d.did.moment }) c.server
               d.did.node (server_relay the_three) (server_client the_three) shut;
-          silent = unlike.silent the no_request G p i y g delivered at (out.asking is);
+          silent = unlike.silent the no_request this (out.asking is);
         }
     goes_on (tested is) =
-        let d = to_host the G p i y g delivered at is in
+        let d = to_host the this is in
         record {
-          made = at_nodes.answered the G p i y g delivered at is IsAsked (λ z to_own. in_vain (for_client z refl to_own));
+          made = at_nodes.answered the this is IsAsked (λ z to_own. in_vain (for_client z refl to_own));
           stays = still_unheard the_three hushed plain G p (record { follows = g.0; calm = d.calm; moment = d.did.moment }) m
               d.did.node (native_relay the_three) (native_client the_three) shut;
-          silent = unlike.silent the no_request G p i y g delivered at (out.tested is);
+          silent = unlike.silent the no_request this (out.tested is);
         }
     goes_on (in_vain is) =
-        let ends = step the_three hushed plain G p i y g sound delivered at shut is in
+        let ends = step the_three hushed plain this sound shut is in
         record { made = each_so (λ z such. in_vain such) (items_of p) ends.made; stays = ends.stays; silent = λ b. ends.native b.node }
 
   -- AFTER THE PACKET'S RECORD
@@ -86,7 +87,7 @@ module _ (the : AskingHost) (hushed : Bool) (plain : hushed ≡ false → has_co
   none_come : ClosedBy the_three hushed plain hushed (q ∷ H) → Untrusted the_three hushed plain (journal k H) (now H)
       → (later : List Full) → Grown lab (later ++ q ∷ H) → AreFresh q later → SomeBrings m (native h) x later → ⊥
   none_come closed untrusted = none_brings lab H q m (native h) x IsAsked IsShut
-      (λ G p i y g sound delivered at is shut. goes_on G p i y g sound delivered at shut is) (number the)
+      (λ this sound is shut. goes_on this sound shut is) (number the)
       (out.all_made the IsAsked (asking refl)) (at_first closed untrusted)
 
 -- WHY IT GETS NO ANSWER

@@ -1,10 +1,10 @@
 -- A packet for a native host that goes to its relay at once, where the relay doesn't list the client: it is dropped there.
-use Rattle.theory_reaching.proofs.Words.{AllByRecursion, AreFresh, Arrival, ClientNode, Entry, Ep, Full, Grown, Input, Ip6, Item, Journal, Lab, List, NativeNode, None, Option, ReadsPayload, RelayNode, RelaySettings, Send, Some, SomeBrings, Value, [], address_at, ap, armed, arrival, arrived, at_same_moment, deliveries, embedded, entry_in, false, fields_in, filter_map, is_big, is_listed, is_teredo, item_in, journal, length, listed_is_known, native, node_at, node_is_reached, now, other_journal, outright, own_ep, packet_in, packet_is_payload, read_as, refl, relay, relay_in, relay_mention, relay_mentions, relay_reception_step, relay_settings, relay_standing_at, same_ep-self, six_made, slice_get, subst, sym, true, udp, unkeyed, unlisted_is_dropped, unwrap_or, value_written, wire, with_entry, wordless_entry, ℕ, ◌++◌, ◌∙◌, ◌∷◌, ◌≡◌}
+use Rattle.theory_reaching.proofs.Words.{AllByRecursion, AreFresh, Arrival, ClientNode, Entry, Ep, Full, Grown, Input, Ip6, Item, Journal, Lab, List, NativeNode, None, Option, ReadsPayload, RelayNode, RelaySettings, Send, Some, SomeBrings, Value, [], address_at, ap, armed, arrival, arrived, at_same_moment, deliveries, embedded, entry_in, false, fields_in, filter_map, is_big, is_listed, is_teredo, item_in, journal, length, listed_is_known, native, node_at, node_is_reached, now, other_journal, outright, own_ep, packet_in, packet_is_payload, read_as, refl, relay, relay_in, relay_mention, relay_mentions, relay_reception_step, relay_settings, relay_standing_at, same_ep-self, six_made, subst, sym, true, udp, unkeyed, unlisted_is_dropped, unwrap_or, value_written, with_entry, wordless_entry, ℕ, ◌++◌, ◌∙◌, ◌∷◌, ◌≡◌}
 use Rattle.teredo_node.specs.declared.fate.Fate.TheVariants as fate
 use Rattle.theory_first_natives.proofs.tables.RelayHears.{seen_here}
 use Rattle.theory_reaching.proofs.relays.NodesApart.{client_relay, relay_native}
 use Rattle.theory_reaching.proofs.relays.RelayEnds.{relay_there}
-use Rattle.theory_reaching.proofs.schedules.Throughout.{Goes, none_brings}
+use Rattle.theory_reaching.proofs.schedules.Throughout.{Goes, none_brings, OneDelivery}
 use Rattle.theory_reaching.proofs.to_native.ToRelay.{SentOut, IsSentOut, did, small, bytes, number, makes, teredo, fits}
 use Rattle.theory_reaching.proofs.clients.Unheard.{as_listed}
 use Rattle.theory_reaching.proofs.relays.Relays.{RelayedHosts}
@@ -63,10 +63,11 @@ module _ (lab : Lab) (H : List Full) (q : Full) (n m : ℕ) (c : ClientNode) (h 
   abbrev IsUnlisted : List Full → Type 0
   IsUnlisted G = is_listed own (now G) (relay_mentions (journal k G).entries) ≡ false
 
-  module _ (G : List Full) (p : Full) (i : ℕ) (y : Item) (g : Grown lab (p ∷ G)) (delivered : p.delivered ≡ Some i) (at : slice_get (wire G) i ≡ Some y)
-      (is : IsIt y) (not_listed : IsUnlisted G) where
+  module _ (this : OneDelivery lab) (is : IsIt this.y) (not_listed : IsUnlisted this.G) where
+    open this use {G, p, serial, g, delivered, at}
+
     came : Arrival lab G p k (relay r) (udp (embedded own) r.at x)
-    came = arrival lab G p i (deliveries lab G p i g delivered) (record {
+    came = arrival lab G p serial (deliveries lab G p serial g delivered) (record {
       number = k;
       node = relay r;
       item = udp (embedded own) r.at x;
@@ -107,7 +108,7 @@ module _ (lab : Lab) (H : List Full) (q : Full) (n m : ℕ) (c : ClientNode) (h 
 
   -- so no delivery brings it
   pub none_come : (later : List Full) → Grown lab (later ++ q ∷ H) → AreFresh q later → SomeBrings m (native h) x later → ⊥
-  none_come = none_brings lab H q m (native h) x IsIt IsUnlisted (λ G p i y g sound delivered at is off. step G p i y g delivered at is off)
+  none_come = none_brings lab H q m (native h) x IsIt IsUnlisted (λ this sound is off. step this is off)
       (number
       (record { lab = lab; H = H; q = q; n = n; m = m; c = c; h = h; r = r; x = x; sent_out = out })) (subst (AllByRecursion IsIt) (sym (makes
       (record { lab = lab; H = H; q = q; n = n; m = m; c = c; h = h; r = r; x = x; sent_out = out }))) (refl, tt))
