@@ -22,6 +22,7 @@ fn play_generated<K: Sink>(alloc: Global, asked: &GenWords, out: &mut K) -> u8
     requires { asked.now.count ≤ EVENTS_MAX }
     ensures { GenEnds (K.state out.old) (K.state out.new) asked.now result }
 {
+    generator::generated_is_honest();
     let Ok(s) = generated_scenario(alloc, asked.seed, asked.count) else {
         return NO_MEMORY;
     };
