@@ -49,8 +49,21 @@ module _ (lab : Lab) (H : List Full) (parts : Parts lab H) where
 
 -- THE TABLES
 
-module _ (lab : Lab) (H : List Full) (q : Full) (later : List Full) (n m : ℕ) (x : List ℕ) (grown : Grown lab (later ++ q ∷ H))
-    (fresh : AreFresh q later) where
+-- after the record q the records `later` are a fresh schedule, in which the packet x of node n may come to node m
+record FreshSchedule : Type 0 where
+  lab : Lab
+  H : List Full
+  q : Full
+  later : List Full
+  n : ℕ
+  m : ℕ
+  x : List ℕ
+  grown : Grown lab (later ++ q ∷ H)
+  fresh : AreFresh q later
+
+module _ (the : FreshSchedule) where
+  open the use {lab, H, q, later, n, m, x, grown, fresh}
+
   -- what the word promises of two nodes
   abbrev Promised : Reach → Node → Node → Type 0
   Promised said a b = node_at lab.topology n ≡ Some a → node_at lab.topology m ≡ Some b → IsSentNext lab H q n m a x
@@ -88,13 +101,13 @@ module _ (lab : Lab) (H : List Full) (parts : Parts lab H) where
   each_word word.Away q later n m a b x grown at to word_is sent fresh = parts.away q later n m a b x grown at to word_is sent fresh
   each_word word.Lost q later n m a b x grown at to word_is sent fresh = tt
   each_word word.OneNat q later n m a b x grown at to word_is sent fresh =
-      one_nat lab H q later n m x grown fresh parts.one_nat a b word_is at to sent
+      one_nat (record { lab = lab; H = H; q = q; later = later; n = n; m = m; x = x; grown = grown; fresh = fresh }) parts.one_nat a b word_is at to sent
   each_word word.Full q later n m a b x grown at to word_is sent fresh =
-      shut lab H q later n m x grown fresh word.Full (full lab H parts) a b word_is at to sent
+      shut (record { lab = lab; H = H; q = q; later = later; n = n; m = m; x = x; grown = grown; fresh = fresh }) word.Full (full lab H parts) a b word_is at to sent
   each_word word.Stale q later n m a b x grown at to word_is sent fresh =
-      shut lab H q later n m x grown fresh word.Stale (stale lab H parts) a b word_is at to sent
+      shut (record { lab = lab; H = H; q = q; later = later; n = n; m = m; x = x; grown = grown; fresh = fresh }) word.Stale (stale lab H parts) a b word_is at to sent
   each_word word.Barred q later n m a b x grown at to word_is sent fresh =
-      shut lab H q later n m x grown fresh word.Barred (barred lab H parts) a b word_is at to sent
+      shut (record { lab = lab; H = H; q = q; later = later; n = n; m = m; x = x; grown = grown; fresh = fresh }) word.Barred (barred lab H parts) a b word_is at to sent
   each_word word.Known q later n m a b x grown at to word_is sent fresh = tt
   each_word word.Within1 q later n m a b x grown at to word_is sent fresh = parts.within_one q later n m a b x grown at to word_is sent fresh
   each_word word.Within2 q later n m a b x grown at to word_is sent fresh = parts.within_two q later n m a b x grown at to word_is sent fresh

@@ -1,9 +1,9 @@
 -- A receiver that is barred for the sender, whose bubbles don't come to it straight: it answers none that comes through its server.
-use Rattle.theory_reaching.proofs.Words.{AllByRecursion, AreFresh, Comes, Delivery, Full, Grown, HasNoFault, Ip6, IsLetIn, IsMissed, Item, Journal, List, Node, Option, ServerNode, Some, SomeBrings, address_at, ap, as_client, asks_at, at_same_moment, bubble_bytes, client, comes_or_not, deliveries, each_so, embedded, enters_along, enters_by_its_way, false≢true, filter_map, is_let_in, is_reached, item_in, journal, let_in_too, nats_left, nats_of, node_at, now, option_and_then, reaches, route, shut_there, slice_get, still_in, subst, sym, to_node, to_none, udp, unwrap_or, wire, ℕ, ◌++◌, ◌∙◌, ◌∷◌, ◌≡◌}
+use Rattle.theory_reaching.proofs.Words.{AllByRecursion, Comes, Delivery, Full, HasNoFault, Ip6, IsLetIn, IsMissed, Item, Journal, List, Node, Option, ServerNode, Some, address_at, ap, as_client, asks_at, at_same_moment, bubble_bytes, client, comes_or_not, deliveries, each_so, embedded, enters_along, enters_by_its_way, false≢true, filter_map, is_let_in, is_reached, item_in, journal, let_in_too, nats_left, nats_of, node_at, now, option_and_then, reaches, route, shut_there, slice_get, still_in, subst, sym, to_node, to_none, udp, unwrap_or, wire, ℕ, ◌∙◌, ◌≡◌}
 use Rattle.legal.specs.Deliveries.{to_nobody}
 use Rattle.theory_reaching.proofs.clients.BothSettled.{Both, receiver_end, number}
 use Rattle.theory_reaching.proofs.clients.ShutOut.{missed_brings}
-use Rattle.theory_reaching.proofs.schedules.Throughout.{Goes, none_brings, OneDelivery}
+use Rattle.theory_reaching.proofs.schedules.Throughout.{Goes, none_brings, NoneBrings, OneDelivery}
 use Rattle.theory_reaching.proofs.clients.BarredThere as there
 use Rattle.theory_reaching.proofs.clients.BarredThere.{IsBarredThere, IsComing, asking, told, straight, IsMute}
 use Rattle.theory_reaching.proofs.clients.BarredAtServer as at_its_server
@@ -88,6 +88,6 @@ module _ (the : Both) (there_barred : IsBarredThere the.lab the.H the.n the.m) w
     step (straight led is) = goes_off led is
 
   -- so no delivery brings it
-  pub none_come : (later : List Full) → Grown lab (later ++ q ∷ H) → AreFresh q later → SomeBrings m (client d) x later → ⊥
+  pub none_come : NoneBrings lab H q m (client d) x
   none_come = none_brings lab H q m (client d) x IsIt IsMuteAt (λ this sound is mute. step this sound mute is)
       (number the) (there.all_coming the there_barred) (there.at_first the there_barred)

@@ -65,8 +65,19 @@ module _ (the : Both) (room : has_room (mentions (journal the.m the.H).entries) 
 
     -- AT THE RECEIVER
 
-    module _ (src : Ep) (z : List ℕ) (v : Value) (is : y ≡ udp src (embedded other) z) (reads : ReadsPayload v z) (source : v.packet.src ≡ own)
-        (no_advert : (is_from_server (client_settings lab.topology d) src && is_advert (message_in v.packet)) ≡ false) where
+    -- what is delivered is of the sender, to the receiver, and no advertisement of its server
+    pub record IsOfSender : Type 0 where
+      pub src : Ep
+      pub z : List ℕ
+      pub v : Value
+      pub is : y ≡ udp src (embedded other) z
+      pub reads : ReadsPayload v z
+      pub source : v.packet.src ≡ own
+      pub no_advert : (is_from_server (client_settings lab.topology d) src && is_advert (message_in v.packet)) ≡ false
+
+    module _ (it : IsOfSender) where
+      open it use {src, z, v, is, reads, source, no_advert}
+
       heard : IsReached lab G p m (client d) (udp src (embedded other) z) → Result
       heard reached =
           let s = client_settings lab.topology d in

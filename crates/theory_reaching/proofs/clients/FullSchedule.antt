@@ -1,7 +1,7 @@
 -- A fresh schedule after a packet for a receiver that has no room for the sender: no delivery hands it over.
-use Rattle.theory_reaching.proofs.Words.{AllByRecursion, AreFresh, Arrival, Bool, Delivery, Full, Grown, HasNoFault, Ip6, Item, List, Made, MayTell, Node, None, Option, ServerNode, Some, SomeBrings, address_at, and_right, ap, arrival, bubble_bytes, bubble_of, bubble_reads_back, bubble_small, client, deliveries, embedded, false, false≢true, filter_map, forwarded, forwarded_reads_back, has_room, is_teredo, item_in, journal, mentions, no_server_address, no_server_second, node_at, not, not_from_true, now, other_journal, refl, same_ep, same_ep-self, server, server_ep, server_in, subst, sym, to_server, true, udp, unwrap_or, value_written, ℕ, ◌++◌, ◌∙◌, ◌∷◌, ◌≡◌}
+use Rattle.theory_reaching.proofs.Words.{AllByRecursion, Arrival, Bool, Delivery, HasNoFault, Ip6, Item, List, Made, MayTell, Node, None, Option, ServerNode, Some, address_at, and_right, ap, arrival, bubble_bytes, bubble_of, bubble_reads_back, bubble_small, client, deliveries, embedded, false, false≢true, filter_map, forwarded, forwarded_reads_back, has_room, is_teredo, item_in, journal, mentions, no_server_address, no_server_second, node_at, not, not_from_true, now, other_journal, refl, same_ep, same_ep-self, server, server_ep, server_in, subst, sym, to_server, true, udp, unwrap_or, value_written, ℕ, ◌∙◌, ◌≡◌}
 use Rattle.theory_first_packets.proofs.tables.AtServer as at_server
-use Rattle.theory_reaching.proofs.schedules.Throughout.{Goes, none_brings, OneDelivery}
+use Rattle.theory_reaching.proofs.schedules.Throughout.{Goes, none_brings, NoneBrings, OneDelivery}
 use Rattle.theory_reaching.proofs.clients.FullReceiver.{IsComing, coming, asking, no_advert, all_coming}
 use Rattle.theory_reaching.proofs.clients.BothSettled.{Both, a_side, b_side, sender_end, receiver_end, number}
 use Rattle.theory_reaching.proofs.clients.FullAtReceiver.{IsFull, at_first, stays, comes}
@@ -95,11 +95,19 @@ module _ (the : Both) (room : has_room (mentions (journal the.m the.H).entries) 
           }
 
     step : IsIt y → Result
-    step (coming src z v is reads source none) = comes the room this sound full src z v is reads source none
+    step (coming src z v is reads source none) = comes the room this sound full (record {
+      src = src;
+      z = z;
+      v = v;
+      is = is;
+      reads = reads;
+      source = source;
+      no_advert = none;
+    })
     step (asking is) = passed_on is
 
   -- so no delivery brings it
-  pub none_come : (later : List Full) → Grown lab (later ++ q ∷ H) → AreFresh q later → SomeBrings m (client d) x later → ⊥
+  pub none_come : NoneBrings lab H q m (client d) x
   none_come = none_brings lab H q m (client d) x IsIt (IsFull the room)
       (λ this sound is full. step this sound full is)
       (number the) (all_coming the) (at_first the room)

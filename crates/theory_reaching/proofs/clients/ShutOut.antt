@@ -1,9 +1,9 @@
 -- A packet that goes at once and isn't let in at the receiver's: it isn't let in later either.
-use Rattle.theory_reaching.proofs.Words.{AllByRecursion, AreFresh, Comes, Contains, Delivery, EntersPast, Full, GivesToHost, Grown, Ip6, IsLetIn, IsMissed, Item, Lab, List, Node, Option, Some, SomeBrings, WayIn, [], address_at, ap, arith, as_client, asks_at, client, comes_or_not, deliveries, each_so, embedded, ends_at, enters_along, enters_by_its_way, false, false≢true, filter_map, frame, has_cone, inl, inr, is_fresh, is_led_to, is_let_in, is_reached, is_some, item_in, keeps_to_its_way, known_by, let_in_too, nat_history, nats_left, nats_of, no_nat, node_at, now, option_and_then, reaches, refl, route, same_number, shut_there, slice_get, still_in, subst, sym, to_client, to_node, to_none, true, udp, unwrap_or, wire, ℕ, ◌++◌, ◌<◌, ◌||◌, ◌∙◌, ◌∷◌, ◌≡◌, ◌⊎◌}
+use Rattle.theory_reaching.proofs.Words.{AllByRecursion, Comes, Contains, Delivery, EntersPast, Full, GivesToHost, Ip6, IsLetIn, IsMissed, Item, Lab, List, Node, Option, Some, WayIn, [], address_at, ap, arith, as_client, asks_at, client, comes_or_not, deliveries, each_so, embedded, ends_at, enters_along, enters_by_its_way, false, false≢true, filter_map, frame, has_cone, inl, inr, is_fresh, is_led_to, is_let_in, is_reached, is_some, item_in, keeps_to_its_way, known_by, let_in_too, nat_history, nats_left, nats_of, no_nat, node_at, now, option_and_then, reaches, refl, route, same_number, shut_there, slice_get, still_in, subst, sym, to_client, to_node, to_none, true, udp, unwrap_or, wire, ℕ, ◌<◌, ◌||◌, ◌∙◌, ◌∷◌, ◌≡◌, ◌⊎◌}
 use Rattle.legal.specs.Deliveries.{to_nobody}
 use Rattle.theory_reaching.proofs.schedules.ApartWays.{WaysApart, all_stay, entered_before}
 use Rattle.theory_reaching.proofs.clients.Straight.{items_one}
-use Rattle.theory_reaching.proofs.schedules.Throughout.{Goes, none_brings, OneDelivery}
+use Rattle.theory_reaching.proofs.schedules.Throughout.{Goes, none_brings, NoneBrings, OneDelivery}
 use Rattle.theory_reaching.proofs.clients.BothSettled.{Both, differ, sender_end, receiver_end, did, number, next, server_way_then}
 
 -- a record that comes to nobody brings nothing
@@ -115,7 +115,7 @@ module _ (the : Both)
       by (to_nobody z to miss) = missed z miss
 
   -- so no delivery brings it
-  pub none_come : (later : List Full) → Grown lab (later ++ q ∷ H) → AreFresh q later → SomeBrings m (client d) x later → ⊥
+  pub none_come : NoneBrings lab H q m (client d) x
   none_come = none_brings lab H q m (client d) x IsIt IsShutOff (λ this sound is shut. goes_off this is shut)
       (number the)
       (subst (AllByRecursion IsIt) (sym (items_one the quick)) (refl, tt)) at_first

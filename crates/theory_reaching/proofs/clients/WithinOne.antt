@@ -1,5 +1,5 @@
 -- `within 1`: the packet goes at once, and is let in.
-use Rattle.theory_reaching.proofs.Words.{Bool, ClientNode, ComesInTime, KeepsItsPromise, Node, Reach, Relayed, TwoClients, and_parts, ap, between_clients_lines, between_clients_row, by_lines, client, false, from_native_lines, from_native_row, is_settled, not, refl, relayed, sound_first, subst, sym, to_native_lines, to_native_row, true, two_clients, ℕ, ◌&&◌, ◌||◌, ◌∷◌, ◌≡◌}
+use Rattle.theory_reaching.proofs.Words.{Bool, ClientNode, ComesInTime, KeepsItsPromise, Node, Reach, Relayed, TwoClients, and_parts, ap, between_clients_lines, between_clients_row, by_lines, client, false, from_native_lines, from_native_row, is_settled, not, refl, relayed, sound_first, subst, sym, to_native_lines, to_native_row, true, two_clients, ◌&&◌, ◌||◌, ◌∷◌, ◌≡◌}
 use Rattle.theory_settled.proofs.Earlier.{earlier}
 use Rattle.theory_reaching.specs.declared.word.Reach.TheVariants as word
 use Rattle.theory_reaching.proofs.Tests.{elsewhere, held}

@@ -1,20 +1,22 @@
 -- A native host's packet for a client that may not test the host, or whose relay must ask for it in vain: no delivery brings it.
-use Rattle.theory_reaching.proofs.Words.{AllByRecursion, AreFresh, Bool, ClientNode, Full, Grown, Ip6, Lab, List, NativeNode, RelayNode, SomeBrings, [], address_at, client, cone_is_quiet, false, false≢true, fields_in, has_cone, host_hands, inl, inr, is_barred, is_echo_reply, is_none, is_some, is_trusted_at, journal, known_by, known_by_relay, message_in, native, now, peers_of, refl, relay_journals, relay_settings, subst, sym, true, ℕ, ◌++◌, ◌∙◌, ◌∷◌, ◌≡◌, ◌⊎◌}
+use Rattle.theory_reaching.proofs.Words.{AllByRecursion, Bool, Ip6, List, [], address_at, client, cone_is_quiet, false, false≢true, fields_in, has_cone, host_hands, inl, inr, is_barred, is_echo_reply, is_none, is_some, is_trusted_at, journal, known_by, known_by_relay, message_in, native, now, peers_of, refl, relay_journals, relay_settings, subst, sym, true, ℕ, ◌∙◌, ◌∷◌, ◌≡◌, ◌⊎◌}
 use Rattle.theory_reaching.proofs.entries.ClientKeeps.{Wary}
 use Rattle.theory_reaching.proofs.from_native.FromHost as from_host
-use Rattle.theory_reaching.proofs.from_native.FromHost.{IsFromHost}
+use Rattle.theory_reaching.proofs.from_native.FromHost.{FromHost}
 use Rattle.theory_reaching.proofs.from_native.HeldUp as held_up
 use Rattle.theory_reaching.proofs.from_native.HeldUp.{ForClient, IsForClient}
 use Rattle.theory_reaching.proofs.from_native.HeldUpThroughout as throughout
 use Rattle.theory_reaching.proofs.relays.NodesApart.{native_relay, native_client}
 use Rattle.theory_reaching.proofs.relays.RelayEnds.{way, relay_there}
+use Rattle.theory_reaching.proofs.schedules.Throughout.{NoneBrings}
 use Rattle.theory_reaching.proofs.waiting.RelayKeepsOnly.{OnlyThis}
 use Rattle.theory_reaching.proofs.to_native.Unanswered as unanswered
 use Rattle.theory_reaching.proofs.waiting.WaitingBarred.{IsOver, over_before, not_handing, kept_back}
 use Rattle.theory_reaching.proofs.relays.Relays.{RelayedHosts}
 
-module _ (lab : Lab) (H : List Full) (q : Full) (n m : ℕ) (c : ClientNode) (h : NativeNode) (r : RelayNode) (x : List ℕ)
-    (from : IsFromHost lab H q n m c h r x) where
+module _ (the : FromHost) where
+  open the use {lab, H, q, n, m, c, h, r, x, from}
+
   abbrev own : Ip6
   own = address_at lab H n
 
@@ -25,17 +27,17 @@ module _ (lab : Lab) (H : List Full) (q : Full) (n m : ℕ) (c : ClientNode) (h 
   pub unheard : (hushed : Bool) (plain : hushed ≡ false → has_cone own ≡ false) → unanswered.IsUnheard the_three hushed plain H
       → unanswered.NoneComeToClient the_three hushed plain q x
   unheard hushed plain before = unanswered.none_come_to_client the_three hushed plain q x
-      (from_host.number lab H q n m c h r x from)
-      (subst (AllByRecursion (unanswered.IsVain the_three hushed plain)) (sym (from_host.makes lab H q n m c h r x from))
+      (from_host.number the)
+      (subst (AllByRecursion (unanswered.IsVain the_three hushed plain)) (sym (from_host.makes the))
       (unanswered.for_client x refl from.handed.packet.destination, tt))
-      (unanswered.still_unheard the_three hushed plain H q (from_host.next lab H q n m c h r x from) m
-      (from_host.did lab H q n m c h r x from).node (native_relay the_three)
+      (unanswered.still_unheard the_three hushed plain H q (from_host.next the) m
+      (from_host.did the).node (native_relay the_three)
       (native_client the_three) before)
 
   -- the relay is barred for the client, or the client for the relay
   pub asked_in_vain : has_cone own ≡ false → is_some (known_by_relay H h.relay own).trusted ≡ false
       → (is_barred (now H) (known_by_relay H h.relay own) ≡ true) ⊎ (is_barred (now H) (known_by H n r.six) ≡ true)
-      → (later : List Full) → Grown lab (later ++ q ∷ H) → AreFresh q later → SomeBrings n (client c) x later → ⊥
+      → NoneBrings lab H q n (client c) x
   asked_in_vain plain untrusted (inl barred) = unheard true (λ e. absurd (false≢true (sym e))) (record {
     untrusted = untrusted;
     closed = inl (plain, barred);
@@ -74,7 +76,7 @@ module _ (lab : Lab) (H : List Full) (q : Full) (n m : ℕ) (c : ClientNode) (h 
   for_client no_reply = record {
     are = from.are;
     packet = from.handed.packet;
-    bytes = from_host.bytes lab H q n m c h r x from;
+    bytes = from_host.bytes the;
     no_reply = no_reply;
   }
 
@@ -89,12 +91,12 @@ module _ (lab : Lab) (H : List Full) (q : Full) (n m : ℕ) (c : ClientNode) (h 
 
     -- the client keeps it for itself
     kept : (asks : Bool) → held_up.AtRelay the_packet asks asks (journal h.relay H) (now H)
-        → (later : List Full) → Grown lab (later ++ q ∷ H) → AreFresh q later → SomeBrings n (client c) x later → ⊥
-    kept asks waits = throughout.none_come the_packet asks (from_host.number lab H q n m c h r x from)
+        → NoneBrings lab H q n (client c) x
+    kept asks waits = throughout.none_come the_packet asks (from_host.number the)
         (subst (AllByRecursion (held_up.IsOnWay the_packet asks))
-        (sym (from_host.makes lab H q n m c h r x from)) (held_up.given refl, tt))
-        (held_up.still_held_up the_packet asks H q (from_host.next lab H q n m c h r x from) m
-        (from_host.did lab H q n m c h r x from).node (native_relay the_three)
+        (sym (from_host.makes the)) (held_up.given refl, tt))
+        (held_up.still_held_up the_packet asks H q (from_host.next the) m
+        (from_host.did the).node (native_relay the_three)
         (native_client the_three) (record {
           waits = waits;
           closed = closed;
@@ -105,7 +107,7 @@ module _ (lab : Lab) (H : List Full) (q : Full) (n m : ℕ) (c : ClientNode) (h 
     -- so however the relay knows the client
     pub however : (trusts cone barred_there : Bool) → is_some (known_by_relay H h.relay own).trusted ≡ trusts → has_cone own ≡ cone
         → is_barred (now H) (known_by_relay H h.relay own) ≡ barred_there
-        → (later : List Full) → Grown lab (later ++ q ∷ H) → AreFresh q later → SomeBrings n (client c) x later → ⊥
+        → NoneBrings lab H q n (client c) x
     however true cone there e f b = kept false e
     however false true there e f b = kept true (cone_waits f)
     however false false false e f b = kept true (not_barred b)

@@ -3,7 +3,7 @@ use Rattle.theory_reaching.proofs.Words.{Arrival, ClientNode, Did, Full, Grown, 
 use Rattle.teredo_node.specs.Journal.{given}
 use Rattle.theory_first_natives.proofs.tables.RelayGives as gives
 use Rattle.theory_reaching.proofs.from_native.FromHost as from_host
-use Rattle.theory_reaching.proofs.from_native.FromHost.{IsFromHost}
+use Rattle.theory_reaching.proofs.from_native.FromHost.{FromHost, IsFromHost}
 use Rattle.theory_reaching.proofs.relays.Relays.{RelayedHosts, AreRelayed}
 use Rattle.theory_reaching.proofs.relays.RelayEnds.{reachable, relay_there, native_keeps, no_loop}
 use Rattle.theory_reaching.proofs.relays.NodesApart.{native_relay}
@@ -29,6 +29,9 @@ pub record SentBack : Type 0 where
 module _ (the : SentBack) where
   open the use {lab, H, q, n, m, c, h, r, x, back}
 
+  abbrev host : FromHost
+  host = record { lab = lab; H = H; q = q; n = n; m = m; c = c; h = h; r = r; x = x; from = back.from }
+
   abbrev are : AreRelayed lab H n m c h r
   are = back.from.are
 
@@ -47,25 +50,25 @@ module _ (the : SentBack) where
   -- THE RECORD
 
   pub did : Did lab H q m (native h) (entry_of lab H (now H) m no_ep (given x) (native h))
-  did = from_host.did lab H q n m c h r x back.from
+  did = from_host.did host
 
   pub small : is_big (fields_in x) ≡ false
-  small = from_host.small lab H q n m c h r x back.from
+  small = from_host.small host
 
   pub bytes : IsBytes x
-  bytes = from_host.bytes lab H q n m c h r x back.from
+  bytes = from_host.bytes host
 
   pub number : q.first ≡ length (wire H)
-  number = from_host.number lab H q n m c h r x back.from
+  number = from_host.number host
 
   pub next : IsCalmNext lab H q
-  next = from_host.next lab H q n m c h r x back.from
+  next = from_host.next host
 
   teredo : is_teredo (fields_in x).dst ≡ true
-  teredo = from_host.teredo lab H q n m c h r x back.from
+  teredo = from_host.teredo host
 
   pub makes : items_of q ≡ six (Some k) x ∷ []
-  makes = from_host.makes lab H q n m c h r x back.from
+  makes = from_host.makes host
 
   -- AT THE RELAY
 

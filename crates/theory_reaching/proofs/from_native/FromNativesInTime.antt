@@ -1,6 +1,6 @@
 -- `within 5`, `within 6` and `within 9` from a native host: its packet comes by then, past the client's test where this doesn't trust the host
 -- at the relay and, where the relay doesn't know the client, past the relay's bubble.
-use Rattle.theory_reaching.proofs.Words.{Bool, ClientNode, ComesInTime, HostHandsIn, Ip6, KeepsFromNatives, NativeNode, Reach, RelayNode, Some, address_at, address_of, ap, client, false, most_from_native, native, next_from_native_arrives, reach_of, relay_at, relayed, subst, true, ℕ, ◌≡◌}
+use Rattle.theory_reaching.proofs.Words.{Bool, ClientNode, ComesInTime, HostHandsIn, Ip6, KeepsFromNatives, NativeNode, Reach, RelayNode, Some, address_at, address_of, ap, client, false, most_from_native, native, next_from_native_arrives, reach_of, relay_at, relayed, subst, true, ◌≡◌}
 use Rattle.theory_reaching.specs.declared.word.Reach.TheVariants as word
 use Rattle.theory_reaching.proofs.Pairs.{of_native_and_client}
 use Rattle.theory_reaching.proofs.from_native.NativeMayMeetByWord.{PassesTo, SaysBack, says_back, native_may_meet}

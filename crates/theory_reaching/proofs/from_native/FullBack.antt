@@ -5,7 +5,9 @@ use Rattle.theory_settled.proofs.Earlier.{earlier}
 use Rattle.theory_reaching.specs.declared.word.Reach.TheVariants as word
 use Rattle.theory_reaching.proofs.from_native.BarredBack.{unheard, for_client, not_barred, however}
 use Rattle.theory_reaching.proofs.from_native.FromHost as from_host
-use Rattle.theory_reaching.proofs.from_native.FromHost.{IsFromHost, is_from_host}
+use Rattle.theory_reaching.proofs.from_native.FromHost.{FromHost, IsFromHost, is_from_host}
+use Rattle.theory_reaching.proofs.from_native.HeldUp.{ForClient}
+use Rattle.theory_reaching.proofs.relays.Relays.{RelayedHosts}
 use Rattle.theory_reaching.proofs.relays.NodesApart.{native_relay, native_client}
 use Rattle.theory_reaching.proofs.Pairs.{of_native_and_client}
 use Rattle.theory_reaching.proofs.relays.RelayEnds.{way}
@@ -31,35 +33,55 @@ full_is_kept lab H is chained q later n m h d x g at to said sent fresh otherwis
       there = earlier lab later (q ∷ H) g
 
       host : (r : RelayNode) → relay_at lab.topology h.relay ≡ Some r → (relayed lab H m d h r).settled ≡ true → IsFromHost lab H q m n d h r x
-      host r through settled = is_from_host lab H q m n d h r x is chained there to at through settled sent
+      host r through settled = is_from_host (record {
+        lab = lab;
+        H = H;
+        n = m;
+        m = n;
+        c = d;
+        h = h;
+        r = r;
+        are = record { rules = is; chained = chained; grown = there.1; client_is = to; host_is = at; relay_is = through; settled = settled };
+      }) q x there sent
+
+      the_host : (r : RelayNode) → IsFromHost lab H q m n d h r x → FromHost
+      the_host r from = record { lab = lab; H = H; q = q; n = m; m = n; c = d; h = h; r = r; x = x; from = from }
+
+      the_three : (r : RelayNode) → IsFromHost lab H q m n d h r x → RelayedHosts
+      the_three r from = record { lab = lab; H = H; n = m; m = n; c = d; h = h; r = r; are = from.are }
+
+      the_packet : (r : RelayNode) → IsFromHost lab H q m n d h r x → ForClient
+      the_packet r from =
+          let is_for = for_client (the_host r from) sent.no_reply in
+          record { lab = lab; H = H; n = m; m = n; c = d; h = h; r = r; x = x; q = q; is_for = is_for }
 
       mistrusted : (r : RelayNode) → is_listed h.six (now H) (peers_of H m) ≡ false → is_trusted_at r.at (known_by H m h.six) ≡ false
       mistrusted r unlisted = ap (is_trusted_at r.at) (unlisted_is_unknown (peers_of H m) (now H) h.six unlisted) ∙ no_trust r.at
 
       -- the client has no room for the host
       client_full : (r : RelayNode) → IsFromHost lab H q m n d h r x → has_room (peers_of H m) (now H) h.six ≡ false → SomeBrings m (client d) x later → ⊥
-      client_full r from full = however lab H q m n d h r x from sent.no_reply (inl (inr full))
+      client_full r from full = however (the_host r from) sent.no_reply (inl (inr full))
           (mistrusted r (not_listed (peers_of H m) (now H) h.six full)) (is_some (known_by_relay H h.relay (address_at lab H m)).trusted)
           (has_cone (address_at lab H m)) (is_barred (now H) (known_by_relay H h.relay (address_at lab H m))) refl refl refl later g fresh
 
       -- the relay has none for the client
       relay_full : (r : RelayNode) → IsFromHost lab H q m n d h r x → has_room (clients_of H h.relay) (now H) (address_at lab H m) ≡ false
           → SomeBrings m (client d) x later → ⊥
-      relay_full r from full = unheard lab H q m n d h r x from true (λ e. absurd (false≢true (sym e))) (record {
+      relay_full r from full = unheard (the_host r from) true (λ e. absurd (false≢true (sym e))) (record {
         untrusted = ap (λ (z : Peer). is_some z.trusted) (unlisted_is_unknown (clients_of H h.relay) (now H) (address_at lab H m)
             (not_listed (clients_of H h.relay) (now H) (address_at lab H m) full));
         closed = inr full;
-        way = way (record { lab = lab; H = H; n = m; m = n; c = d; h = h; r = r; are = from.are });
+        way = way (the_three r from);
       }) later g fresh
 
       few : length (listed (peers_of H m) (now H)) ≤ PEERS_MAX
       few = let of = client_journals lab H m d there.1 to in journal_has_few (client_settings lab.topology d) (journal m H) (now H) of.journal of.moments
 
       early : (r : RelayNode) (from : IsFromHost lab H q m n d h r x) (plain : has_cone (address_at lab H m) ≡ false)
-          → AllByRecursion (room_for_one.IsEarly (record { lab = lab; H = H; n = m; m = n; c = d; h = h; r = r; x = x; q = q; is_for = for_client lab H q m n d h r x from sent.no_reply }) plain)
+          → AllByRecursion (room_for_one.IsEarly (the_packet r from) plain)
           (items_of q)
       early r from plain = subst (AllByRecursion (room_for_one.IsEarly
-          (record { lab = lab; H = H; n = m; m = n; c = d; h = h; r = r; x = x; q = q; is_for = for_client lab H q m n d h r x from sent.no_reply }) plain)) (sym (from_host.makes lab H q m n d h r x from))
+          (the_packet r from) plain)) (sym (from_host.makes (the_host r from)))
           (room_for_one.at_relay refl, tt)
 
       -- the client has none for both the host and the relay
@@ -67,25 +89,27 @@ full_is_kept lab H is chained q later n m h d x g at to said sent fresh otherwis
           → has_cone (address_at lab H m) ≡ false → is_barred (now H) (known_by_relay H h.relay (address_at lab H m)) ≡ false
           → has_room_for_both (peers_of H m) (now H) h.six r.six ≡ false → (b : Bool) → has_room (peers_of H m) (now H) r.six ≡ b
           → SomeBrings m (client d) x later → ⊥
-      both_full r from untrusted plain unbarred both false room = unheard lab H q m n d h r x from false (λ _. plain) (record {
+      both_full r from untrusted plain unbarred both false room = unheard (the_host r from) false (λ _. plain) (record {
         untrusted = untrusted;
         closed = inr room;
-        way = way (record { lab = lab; H = H; n = m; m = n; c = d; h = h; r = r; are = from.are });
+        way = way (the_three r from);
       }) later g fresh
       both_full r from untrusted plain unbarred both true room =
           let wary = mistrusted r (unlisted_beside (peers_of H m) (now H) h.six r.six few room both) in
-          room_for_one.none_come (record { lab = lab; H = H; n = m; m = n; c = d; h = h; r = r; x = x; q = q; is_for = for_client lab H q m n d h r x from sent.no_reply }) plain
-          (from_host.number lab H q m n d h r x from)
+          room_for_one.none_come (the_packet r from) plain
+          (from_host.number (the_host r from))
           (early r from plain)
-          (room_for_one.still_unanswered (record { lab = lab; H = H; n = m; m = n; c = d; h = h; r = r; x = x; q = q; is_for = for_client lab H q m n d h r x from sent.no_reply }) plain H q
-          (from_host.next lab H q m n d h r x from) n
-          (from_host.did lab H q m n d h r x from).node (native_relay (record { lab = lab; H = H; n = m; m = n; c = d; h = h; r = r; are = from.are }))
-          (native_client (record { lab = lab; H = H; n = m; m = n; c = d; h = h; r = r; are = from.are }))
-          (room_for_one.first_early (record { lab = lab; H = H; n = m; m = n; c = d; h = h; r = r; x = x; q = q; is_for = for_client lab H q m n d h r x from sent.no_reply }) plain
-          (from_host.number lab H q m n d h r x from)
+          (room_for_one.still_unanswered (the_packet r from) plain H q (record {
+            next = from_host.next (the_host r from);
+            a = n;
+            node = (from_host.did (the_host r from)).node;
+            no_relay = native_relay (the_three r from);
+            no_client = native_client (the_three r from);
+          }) (room_for_one.first_early (the_packet r from) plain
+          (from_host.number (the_host r from))
           (early r from plain))
-          (not_barred lab H q m n d h r x from unbarred) untrusted
-          (other_order (peers_of H m) (now H) r.six h.six ∙ both) wary (way (record { lab = lab; H = H; n = m; m = n; c = d; h = h; r = r; are = from.are }))) later g fresh
+          (not_barred (the_host r from) unbarred) untrusted
+          (other_order (peers_of H m) (now H) r.six h.six ∙ both) wary (way (the_three r from))) later g fresh
 
       of : (r : RelayNode) → relay_at lab.topology h.relay ≡ Some r → IsCrowded (relayed lab H m d h r) → SomeBrings m (client d) x later → ⊥
       of r through s = two (either (not (relayed lab H m d h r).room) ((relayed lab H m d h r).asks && not (relayed lab H m d h r).room_for_both) s.crowded)

@@ -1,12 +1,12 @@
 -- A native host's packet for a client that may not test it yet: no delivery of what comes of it brings it to the client's host.
-use Rattle.theory_reaching.proofs.Words.{AllByRecursion, AreFresh, Arrival, Bool, Delivery, Full, Grown, HasNoFault, Ip6, Item, List, Made, ServerNode, Some, SomeBrings, address_at, ap, arrival, bubble_bytes, client, deliveries, filter_map, item_in, items_of, length, node_at, refl, server, server_ep, subst, sym, to_server, true, udp, wire, ℕ, ◌++◌, ◌∙◌, ◌∷◌, ◌≡◌}
+use Rattle.theory_reaching.proofs.Words.{AllByRecursion, Arrival, Bool, Delivery, Full, HasNoFault, Ip6, Item, List, Made, ServerNode, Some, address_at, ap, arrival, bubble_bytes, client, deliveries, filter_map, item_in, items_of, length, node_at, refl, server, server_ep, subst, sym, to_server, true, udp, wire, ◌∙◌, ◌∷◌, ◌≡◌}
 use Rattle.theory_first_packets.proofs.tables.AtServer as at_server
 use Rattle.theory_reaching.proofs.relays.NodesApart.{server_client, server_relay}
 use Rattle.theory_reaching.proofs.schedules.OtherRecords.{another}
 use Rattle.theory_reaching.proofs.relays.RelayEnds.{c_side, end}
 use Rattle.theory_reaching.proofs.from_native.RelayTells.{may_tell}
 use Rattle.theory_reaching.proofs.relays.Relays.{RelayedHosts, AreRelayed}
-use Rattle.theory_reaching.proofs.schedules.Throughout.{Goes, none_brings, OneDelivery}
+use Rattle.theory_reaching.proofs.schedules.Throughout.{Goes, none_brings, NoneBrings, OneDelivery}
 use Rattle.theory_reaching.proofs.from_native.HeldUp as held_up
 use Rattle.theory_reaching.proofs.from_native.HeldUp.{ForClient, given, asking, told, answering, to_client_itself}
 use Rattle.theory_reaching.proofs.from_native.HeldUpAtRelay as at_relay
@@ -84,7 +84,6 @@ module _ (the : ForClient) (asks : Bool) where
         this sound up is
 
   -- so no delivery brings it
-  pub none_come : q.first ≡ length (wire H) → AllByRecursion IsOnWay (items_of q) → IsHeldUp (q ∷ H) → (later : List Full) → Grown lab (later ++ q ∷ H)
-      → AreFresh q later → SomeBrings n (client c) x later → ⊥
+  pub none_come : q.first ≡ length (wire H) → AllByRecursion IsOnWay (items_of q) → IsHeldUp (q ∷ H) → NoneBrings lab H q n (client c) x
   none_come number all first = none_brings lab H q n (client c) x IsOnWay IsHeldUp
       (λ this sound is up. step this sound up is) number all first

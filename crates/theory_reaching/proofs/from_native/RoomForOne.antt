@@ -1,6 +1,6 @@
 -- A native host's packet for a client that has room for the host or for its relay, but not for both: once the relay is answered there is
 -- no room for the host.
-use Rattle.theory_reaching.proofs.Words.{AllByRecursion, AreFresh, Arrival, Bool, Delivery, Entry, Full, Grown, HasNoFault, Input, Ip6, IsCalmNext, Item, Journal, List, Made, Mention, PEERS_MAX, RelaySettings, Send, ServerNode, Some, SomeBrings, WayIn, [], address_at, ap, armed, arrival, asks_at, at_same_moment, bubble_bytes, by_way, client, client_journals, client_settings, cond, deliveries, each_so, embedded, entry_input, false, fields_in, filter_map, forwarded, from_six, has_cone, has_room, has_room_for_both, inl, inr, is_listed, is_some, is_trusted_at, item_in, items_of, journal, journal_has_few, known, length, listed, mention, mentions, nat_le, nats_of, no_ep, node_at, node_is_reached, now, outright, own_ep, refl, relay, relay_mentions, relay_settings, relay_six, server, server_ep, six, six_made, sixes_apart, subst, sym, to_server, true, udp, way_out, wire, with_entry, ℕ, ◌++◌, ◌+◌, ◌∙◌, ◌∷◌, ◌≡◌, ◌≤◌, ◌⊎◌}
+use Rattle.theory_reaching.proofs.Words.{AllByRecursion, Arrival, Bool, Delivery, Entry, Full, HasNoFault, Input, Ip6, IsCalmNext, Item, Journal, List, Made, Mention, PEERS_MAX, RelaySettings, Send, ServerNode, Some, WayIn, [], address_at, ap, armed, arrival, asks_at, at_same_moment, bubble_bytes, by_way, client, client_journals, client_settings, cond, deliveries, each_so, embedded, entry_input, false, fields_in, filter_map, forwarded, from_six, has_cone, has_room, has_room_for_both, inl, inr, is_listed, is_some, is_trusted_at, item_in, items_of, journal, journal_has_few, known, length, listed, mention, mentions, nat_le, nats_of, no_ep, node_at, node_is_reached, now, outright, own_ep, refl, relay, relay_mentions, relay_settings, relay_six, server, server_ep, six, six_made, sixes_apart, subst, sym, to_server, true, udp, way_out, wire, with_entry, ℕ, ◌++◌, ◌+◌, ◌∙◌, ◌∷◌, ◌≡◌, ◌≤◌, ◌⊎◌}
 use Rattle.theory_first_packets.proofs.tables.AtServer as at_server
 use Rattle.theory_reaching.proofs.entries.ClientAnswers.{AnswersOnly}
 use Rattle.theory_reaching.proofs.from_native.HeldUp as held_up
@@ -17,7 +17,7 @@ use Rattle.theory_reaching.proofs.relays.RelayMade.{each_made}
 use Rattle.theory_reaching.proofs.from_native.RelayTells.{may_tell, its_bubble}
 use Rattle.theory_reaching.proofs.relays.Relays.{RelayedHosts, AreRelayed}
 use Rattle.theory_reaching.proofs.schedules.Throughout as every
-use Rattle.theory_reaching.proofs.schedules.Throughout.{Goes, none_of_new_brings, OneDelivery}
+use Rattle.theory_reaching.proofs.schedules.Throughout.{Goes, none_of_new_brings, NoneBrings, OneDelivery}
 use Rattle.theory_reaching.proofs.clients.Unheard.{as_listed, all_listed}
 
 -- an entry that lists nobody leaves whether there is room for two
@@ -96,17 +96,24 @@ module _ (the : ForClient) (plain : has_cone (address_at the.lab the.H the.n) �
   more : (G : List Full) (p : Full) → EarlyMade p → EachEarly G → EachEarly (p ∷ G)
   more = every.more lab H q n (client c) x IsEarly (λ (G : List Full). Unit {0})
 
-  -- a record of another node
-  pub still_unanswered : (G : List Full) (p : Full) → IsCalmNext lab G p → (a : ℕ) → p.node ≡ Some a → (a ≡ k → ⊥) → (a ≡ n → ⊥) → EachEarly (p ∷ G)
+  -- the record p after G is of another node than the relay and the client
+  pub record IsOfAnother (G : List Full) (p : Full) : Type 0 where
+    pub next : IsCalmNext lab G p
+    pub a : ℕ
+    pub node : p.node ≡ Some a
+    pub no_relay : a ≡ k → ⊥
+    pub no_client : a ≡ n → ⊥
+
+  pub still_unanswered : (G : List Full) (p : Full) → IsOfAnother G p → EachEarly (p ∷ G)
       → AtRelay (journal k G) (now G) → Untrusted (journal k G) (now G) → NoRoom (journal n G) (now G) → Mistrusted (journal n G) (now G)
       → WayIn lab G (asks_at lab c) (nats_of lab c) c.inside (embedded own) → IsUnanswered (p ∷ G)
-  still_unanswered G p next a node no_relay no_client each waits untrusted both mistrusted way = record {
+  still_unanswered G p other each waits untrusted both mistrusted way = record {
     each = each;
-    waits = stays_at lab k AtRelay G p a next.moment node no_relay waits;
-    untrusted = stays_at lab k Untrusted G p a next.moment node no_relay untrusted;
-    both = stays_at lab n NoRoom G p a next.moment node no_client both;
-    mistrusted = stays_at lab n Mistrusted G p a next.moment node no_client mistrusted;
-    way = way_still lab c own G p next way;
+    waits = stays_at lab k AtRelay G p other.a other.next.moment other.node other.no_relay waits;
+    untrusted = stays_at lab k Untrusted G p other.a other.next.moment other.node other.no_relay untrusted;
+    both = stays_at lab n NoRoom G p other.a other.next.moment other.node other.no_client both;
+    mistrusted = stays_at lab n Mistrusted G p other.a other.next.moment other.node other.no_client mistrusted;
+    way = way_still lab c own G p other.next way;
   }
 
   -- A DELIVERY
@@ -192,8 +199,13 @@ module _ (the : ForClient) (plain : has_cone (address_at the.lab the.H the.n) �
           let d = to_its_server.did in
           record {
             made = each_so on_way (items_of p) told_early;
-            stays = unanswered (still_unanswered G p (record { follows = g.0; calm = to_its_server.calm; moment = d.moment }) c.server d.node
-                (server_relay the_three) (server_client the_three) (more G p told_early early.each) early.waits
+            stays = unanswered (still_unanswered G p (record {
+              next = record { follows = g.0; calm = to_its_server.calm; moment = d.moment };
+              a = c.server;
+              node = d.node;
+              no_relay = server_relay the_three;
+              no_client = server_client the_three;
+            }) (more G p told_early early.each) early.waits
                 early.untrusted early.both early.mistrusted early.way);
             silent = λ b. another p c.server n d.node (server_client the_three) b.node;
           }
@@ -259,8 +271,7 @@ module _ (the : ForClient) (plain : has_cone (address_at the.lab the.H the.n) �
       record { made = goes.made; stays = held_back goes.stays; silent = goes.silent }
 
   -- so no delivery brings it
-  pub none_come : q.first ≡ length (wire H) → EarlyMade q → IsUnanswered (q ∷ H) → (later : List Full) → Grown lab (later ++ q ∷ H)
-      → AreFresh q later → SomeBrings n (client c) x later → ⊥
+  pub none_come : q.first ≡ length (wire H) → EarlyMade q → IsUnanswered (q ∷ H) → NoneBrings lab H q n (client c) x
   none_come number all first = none_of_new_brings lab H q n (client c) x IsOnWay IsCrowded step number (each_so on_way (items_of q) all)
       (unanswered first)
 

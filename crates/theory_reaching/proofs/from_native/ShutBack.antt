@@ -1,7 +1,8 @@
 -- `stale` from a native host: its relay sends the packet on, and the client's NATs don't let it in.
-use Rattle.theory_reaching.proofs.Words.{AllByRecursion, AreFresh, Comes, Delivery, EntersPast, Full, GivesToHost, Grown, HasNoFault, Ip6, IsLetIn, Item, List, Node, Option, Some, SomeBrings, [], address_at, ap, as_client, asks_at, client, comes_or_not, deliveries, embedded, ends_at, enters_along, enters_by_its_way, false, false≢true, filter_map, is_led_to, is_let_in, is_nat_node, is_reached, item_in, items_of, let_in_too, nat_history, native, nats_of, node_at, now, option_and_then, reaches, refl, relay, route, same_number, shut_there, six, slice_get, still_in, subst, suc, sym, to_client, to_node, to_none, udp, unwrap_or, wire, ℕ, ◌++◌, ◌∙◌, ◌∷◌, ◌≡◌}
+use Rattle.theory_reaching.proofs.Words.{AllByRecursion, Comes, Delivery, EntersPast, Full, GivesToHost, Grown, HasNoFault, Ip6, IsLetIn, Item, List, Node, Option, Some, [], address_at, ap, as_client, asks_at, client, comes_or_not, deliveries, embedded, ends_at, enters_along, enters_by_its_way, false, false≢true, filter_map, is_led_to, is_let_in, is_nat_node, is_reached, item_in, items_of, let_in_too, nat_history, native, nats_of, node_at, now, option_and_then, reaches, refl, relay, route, same_number, shut_there, six, slice_get, still_in, subst, suc, sym, to_client, to_node, to_none, udp, unwrap_or, wire, ℕ, ◌∙◌, ◌∷◌, ◌≡◌}
 use Rattle.legal.specs.Deliveries.{to_nobody}
 use Rattle.theory_reaching.proofs.schedules.WayStays as way_stays
+use Rattle.theory_reaching.proofs.schedules.Throughout.{NoneBrings}
 use Rattle.theory_reaching.proofs.schedules.ApartWays.{entered_before}
 use Rattle.theory_reaching.proofs.relays.RelayEnds.{end, way, relay_there}
 use Rattle.theory_reaching.proofs.clients.ShutOut.{missed_brings}
@@ -96,7 +97,7 @@ module _ (the : SentBack) (led : is_led_to the.lab the.H the.r.at (embedded (add
         by (to_nobody z e miss) = (ap (filter_map item_in) miss.made, missed_brings lab F s z n x miss)
 
   -- so no delivery brings it
-  pub none_come : (later : List Full) → Grown lab (later ++ q ∷ H) → AreFresh q later → SomeBrings n (client c) x later → ⊥
+  pub none_come : NoneBrings lab H q n (client c) x
   none_come = neither_brings (record {
     lab = lab;
     H = H;

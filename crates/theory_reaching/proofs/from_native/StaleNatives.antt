@@ -7,7 +7,7 @@ use Rattle.theory_reaching.proofs.from_native.BarredBack.{however}
 use Rattle.theory_reaching.proofs.Tests.{elsewhere, held, failed}
 use Rattle.theory_reaching.proofs.WordTests.{is_stale}
 use Rattle.theory_reaching.proofs.Pairs.{of_native_and_client}
-use Rattle.theory_reaching.proofs.from_native.FromHost.{is_from_host}
+use Rattle.theory_reaching.proofs.from_native.FromHost.{IsFromHost, is_from_host}
 use Rattle.theory_reaching.proofs.from_native.ShutBack.{none_come}
 
 -- WHAT THE LINES SAY
@@ -50,6 +50,18 @@ stale_is_kept lab H is chained q later n m h d x g at to said sent fresh =
       there : Grown lab (q ∷ H)
       there = earlier lab later (q ∷ H) g
 
+      from_host : (r : RelayNode) → relay_at lab.topology h.relay ≡ Some r → (relayed lab H m d h r).settled ≡ true → IsFromHost lab H q m n d h r x
+      from_host r through settled = is_from_host (record {
+        lab = lab;
+        H = H;
+        n = m;
+        m = n;
+        c = d;
+        h = h;
+        r = r;
+        are = record { rules = is; chained = chained; grown = there.1; client_is = to; host_is = at; relay_is = through; settled = settled };
+      }) q x there sent
+
       of : (r : RelayNode) → relay_at lab.topology h.relay ≡ Some r → IsShutOff (relayed lab H m d h r) ⊎ IsFreshElsewhere (relayed lab H m d h r)
           → SomeBrings m (client d) x later → ⊥
       of r through (inl s) =
@@ -65,13 +77,13 @@ stale_is_kept lab H is chained q later n m h d x g at to said sent fresh =
             r = r;
             x = x;
             back = record {
-              from = is_from_host lab H q m n d h r x is chained there to at through s.settled sent;
+              from = from_host r through s.settled;
               trusts = shut.0;
             };
           }) (failed (relayed lab H m d h r).let_in shut.1) later g fresh
       of r through (inr s) =
           let parts = and_parts (relayed lab H m d h r).fresh (not (relayed lab H m d h r).trusted) s.fresh in
           let own = address_at lab H m in
-          however lab H q m n d h r x (is_from_host lab H q m n d h r x is chained there to at through s.settled sent) sent.no_reply (inr parts.0)
+          however (record { lab = lab; H = H; q = q; n = m; m = n; c = d; h = h; r = r; x = x; from = from_host r through s.settled }) sent.no_reply (inr parts.0)
           (failed (relayed lab H m d h r).trusted parts.1) (is_some (known_by_relay H h.relay own).trusted) (has_cone own)
           (is_barred (now H) (known_by_relay H h.relay own)) refl refl refl later g fresh

@@ -30,7 +30,9 @@ module _ (lab : Lab) (rules : IsTopology lab.topology) (m : ℕ) (d : ClientNode
 
   -- A DELIVERY
 
-  module _ (G : List Full) (p : Full) (y : Item) (g : Grown lab (p ∷ G)) (none : IsNonceless y) (off : IsOff G) where
+  module _ (this : OneDelivery lab) (none : IsNonceless this.y) (off : IsOff this.G) where
+    open this use {G, p, y}
+
     -- to it
     at_it : IsReached lab G p m (client d) y → (z : List ℕ) → IsOff (p ∷ G) × (GivesToHost m z p → ⊥)
     at_it reached z =
@@ -66,9 +68,9 @@ module _ (lab : Lab) (rules : IsTopology lab.topology) (m : ℕ) (d : ClientNode
 
     by : Delivery lab this.G this.p this.serial → Goes lab H q m (client d) z IsNonceless IsOff this.G this.p
     by (to_node i a u e reached) =
-        let nonceless : IsNonceless u = subst IsNonceless (same_item u e) none in
-        let holds = stays this.G this.p u this.g nonceless off i a reached z in
-        record { made = of_delivery lab rules this.G this.p this.g i a u nonceless reached; stays = holds.0; silent = holds.1 }
+        let its : IsReached lab this.G this.p i a this.y = subst (IsReached lab this.G this.p i a) (sym (same_item u e)) reached in
+        let holds = stays this none off i a its z in
+        record { made = of_delivery lab rules this.G this.p this.g i a this.y none its; stays = holds.0; silent = holds.1 }
     by (to_nobody u e miss) = record {
       made = subst (λ (ms : List Made). AllByRecursion IsNonceless (filter_map item_in ms)) (sym miss.made) tt;
       stays = ap (λ (j : Journal). is_qualified (qualification s j).phase) (miss.journals m) ∙ off;

@@ -1,5 +1,5 @@
 -- `within 2`: between a client and a native host, through a relay that knows the client.
-use Rattle.theory_reaching.proofs.Words.{Bool, ClientNode, ComesInTime, Grown, HostHandsIn, Ip6, KeepsItsPromise, NativeNode, Node, Reach, RelayNode, Relayed, Some, TwoClients, WayIn, address_at, address_of, and_parts, ap, asked_along, between_clients_lines, between_clients_row, by_lines, client, embedded, enters_by_its_way, false, inl, inr, known_by_relay, native, nats_of, not, now, refl, relay_at, relayed, sound_first, subst, sym, to_native_lines, to_native_row, true, two_clients, ℕ, ◌&&◌, ◌∷◌, ◌≡◌, ◌⊎◌}
+use Rattle.theory_reaching.proofs.Words.{Bool, ClientNode, ComesInTime, Grown, HostHandsIn, Ip6, KeepsItsPromise, NativeNode, Node, Reach, RelayNode, Relayed, Some, TwoClients, WayIn, address_at, address_of, and_parts, ap, asked_along, between_clients_lines, between_clients_row, by_lines, client, embedded, enters_by_its_way, false, inl, inr, known_by_relay, native, nats_of, not, now, refl, relay_at, relayed, sound_first, subst, sym, to_native_lines, to_native_row, true, two_clients, ◌&&◌, ◌∷◌, ◌≡◌, ◌⊎◌}
 use Rattle.theory_settled.proofs.Earlier.{earlier}
 use Rattle.theory_reaching.specs.declared.word.Reach.TheVariants as word
 use Rattle.theory_reaching.proofs.Tests.{elsewhere, held, failed, second_fails}
@@ -124,7 +124,16 @@ module _ (h : NativeNode) (c : ClientNode) (the : NextPacket (native h) (client 
         r = r;
         x = x;
         back = record {
-          from = is_from_host lab H q m n c h r x is chained there to at through s.settled sent;
+          from = is_from_host (record {
+            lab = lab;
+            H = H;
+            n = m;
+            m = n;
+            c = c;
+            h = h;
+            r = r;
+            are = record { rules = is; chained = chained; grown = there.1; client_is = to; host_is = at; relay_is = through; settled = s.settled };
+          }) q x there sent;
           trusts = known.0;
         };
       }) way known.1 later g fresh

@@ -47,9 +47,7 @@ pub record WaysApart (lab : Lab) (c d : ClientNode) : Type 0 where
   pub outside_too : is_inner lab.chain (outermost lab d) ≡ false
   pub differ : outermost lab c ≡ outermost lab d → ⊥
 
-module _ (lab : Lab) (H : List Full) (q : Full) (n : ℕ) (c d : ClientNode) (apart : WaysApart lab c d) (node : q.node ≡ Some n)
-    (there : client_at lab.topology n ≡ Some c) (keeps : KeepsToItsWay lab q)
-    (nats : (k : ℕ) → (q.node ≡ Some k → ⊥) → outs_at k q.passed ≡ [] → nat_history lab k (q ∷ H) ≡ nat_history lab k H) where
+module _ (lab : Lab) (c d : ClientNode) (apart : WaysApart lab c d) where
   -- no NAT of the one's way is on the other's
   not_on : (k : ℕ) → LeadTo lab.chain (outermost lab d) k → Contains (nats_of lab c) k → ⊥
   not_on k leads on =
@@ -57,10 +55,7 @@ module _ (lab : Lab) (H : List Full) (q : Full) (n : ℕ) (c d : ClientNode) (ap
       (All-from_recursion (LeadTo lab.chain (outermost lab c)) (nats_of lab c) (from_each lab.chain lab.chain c.nat)) on in
       apart.differ (one_last lab.chain k first.0 leads.0 (outermost lab c) (outermost lab d) apart.outside apart.outside_too first.1 leads.1)
 
-  its_way : way_from lab q.node ≡ nats_of lab c
-  its_way = ap (λ (o : Option ℕ). way_from lab o) node ∙ ap (way_by lab) there
-
-  -- so nothing of the record passed one of the other's
+  -- so what passed the one's passed none of the other's
   none_out : (k : ℕ) → LeadTo lab.chain (outermost lab d) k → (ps : List Passing) → AllByRecursion (λ (p : Passing). Contains (nats_of lab c) p.nat) ps
       → outs_at k ps ≡ []
   none_out k leads [] all = refl
@@ -69,12 +64,18 @@ module _ (lab : Lab) (H : List Full) (q : Full) (n : ℕ) (c d : ClientNode) (ap
     by false e ih = ih
     by true e ih = let same : p.nat ≡ k = grind (arith, nat_tests) in absurd (not_on k leads (subst (Contains (nats_of lab c)) same all.0))
 
+module _ (lab : Lab) (H : List Full) (q : Full) (n : ℕ) (c d : ClientNode) (apart : WaysApart lab c d) (node : q.node ≡ Some n)
+    (there : client_at lab.topology n ≡ Some c) (keeps : KeepsToItsWay lab q)
+    (nats : (k : ℕ) → (q.node ≡ Some k → ⊥) → outs_at k q.passed ≡ [] → nat_history lab k (q ∷ H) ≡ nat_history lab k H) where
+  its_way : way_from lab q.node ≡ nats_of lab c
+  its_way = ap (λ (o : Option ℕ). way_from lab o) node ∙ ap (way_by lab) there
+
   passed_its : AllByRecursion (λ (p : Passing). Contains (nats_of lab c) p.nat) q.passed
   passed_its = subst (λ (way : List ℕ). AllByRecursion (λ (p : Passing). Contains way p.nat) q.passed) its_way keeps
 
   -- and these have the histories that they had, which the record's node is none of
   stays : (k : ℕ) → (k ≡ n → ⊥) → LeadTo lab.chain (outermost lab d) k → nat_history lab k (q ∷ H) ≡ nat_history lab k H
-  stays k other leads = nats k (λ same. other (ap (λ (o : Option ℕ). unwrap_or o k) (sym same ∙ node))) (none_out k leads q.passed passed_its)
+  stays k other leads = nats k (λ same. other (ap (λ (o : Option ℕ). unwrap_or o k) (sym same ∙ node))) (none_out lab c d apart k leads q.passed passed_its)
 
   -- so have all of the other's way
   pub all_stay : AllByRecursion (λ (k : ℕ). k ≡ n → ⊥) (nats_of lab d)

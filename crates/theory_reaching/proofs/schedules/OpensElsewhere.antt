@@ -53,14 +53,27 @@ asked_before Restricted src s d b plain other to asked = absurd (other (sym aske
 asked_before Port src s d b plain other to asked = absurd (other (ap (λ (e : Ep). e.ip) (sym asked ∙ to)))
 asked_before Symmetric src s d b plain other to asked = absurd (false≢true (sym plain))
 
-module _ (lab : Lab) (H : List Full) (q : Full) (g : Grown lab (q ∷ H)) (next : IsCalmNext lab H q) (s src : Ep)
-    (other : src.ip ≡ s.ip → ⊥) (all : AreTo s q.passed) where
+at_end : (a b : Ep) (ip : Ip4) → a.ip ≡ ip → b.ip ≡ ip → a.port ≡ b.port → b ≡ a
+at_end a b ip e f g = ap (λ (z : Ip4). record { ip = z; port = b.port }) (f ∙ sym e) ∙ ap (λ (p : ℕ). record { ip = a.ip; port = p }) (sym g)
+
+-- the record q after H sends to s alone, and src has another address
+pub record SendsOnlyTo : Type 0 where
+  pub lab : Lab
+  pub H : List Full
+  pub q : Full
+  pub s : Ep
+  pub src : Ep
+  pub g : Grown lab (q ∷ H)
+  pub next : IsCalmNext lab H q
+  pub other : src.ip ≡ s.ip → ⊥
+  pub all : AreTo s q.passed
+
+module _ (the : SendsOnlyTo) where
+  open the use {lab, H, q, s, src, g, next, other, all}
+
   -- what the record added to these NATs' histories is what it let out
   abbrev Grew : List ℕ → Type 0
   Grew way = AllByRecursion (λ (k : ℕ). nat_history lab k (q ∷ H) ≡ outs_at k q.passed ++ nat_history lab k H) way
-
-  at_end : (a b : Ep) (ip : Ip4) → a.ip ≡ ip → b.ip ≡ ip → a.port ≡ b.port → b ≡ a
-  at_end a b ip e f g = ap (λ (z : Ip4). record { ip = z; port = b.port }) (f ∙ sym e) ∙ ap (λ (p : ℕ). record { ip = a.ip; port = p }) (sym g)
 
   -- where the server's datagrams are let in, by the same way
   pub was_let_in : (way : List ℕ) (inside dst : Ep) → list_any (λ (k : ℕ). is_symmetric (nat_of lab k).kind) way ≡ false → Grew way

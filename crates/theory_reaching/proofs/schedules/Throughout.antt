@@ -31,6 +31,10 @@ pub record OneDelivery (lab : Lab) : Type 0 where
   pub delivered : p.delivered ≡ Some serial
   pub at : slice_get (wire G) serial ≡ Some y
 
+-- no delivery of a fresh schedule after q brings the packet x to node m, which is b
+abbrev pub NoneBrings : Lab → List Full → Full → ℕ → Node → List ℕ → Type 0
+NoneBrings lab H q m b x = (later : List Full) → Grown lab (later ++ q ∷ H) → AreFresh q later → SomeBrings m b x later → ⊥
+
 -- P is so of each entry, and J of the records so far
 module _ (lab : Lab) (H : List Full) (q : Full) (m : ℕ) (b : Node) (x : List ℕ) (P : Item → Type 0) (J : List Full → Type 0) where
   -- of each entry from the first one on that the packet's record made
@@ -63,14 +67,20 @@ module _ (lab : Lab) (H : List Full) (q : Full) (m : ℕ) (b : Node) (x : List �
   abbrev pub StepOfNew : Type 0
   StepOfNew = (this : OneDelivery lab) → q.first ≤ this.serial → HasNoFault this.p → P this.y → J this.G → Goes this.G this.p
 
-  module _ (step : StepOfNew) (number : q.first ≡ length (wire H)) (all : AllByRecursion P (items_of q)) (first : J (q ∷ H)) where
+  -- the packet's record made such entries, and J is so after it
+  record Begins : Type 0 where
+    number : q.first ≡ length (wire H)
+    all : AllByRecursion P (items_of q)
+    first : J (q ∷ H)
+
+  module _ (step : StepOfNew) (begins : Begins) where
     record Holds (later : List Full) : Type 0 where
       each : Each (later ++ q ∷ H)
       kept : J (later ++ q ∷ H)
       silent : SomeBrings m b x later → ⊥
 
     holds : (later : List Full) → Grown lab (later ++ q ∷ H) → AreFresh q later → Holds later
-    holds [] g fresh = record { each = at_first number all; kept = first; silent = λ come. come }
+    holds [] g fresh = record { each = at_first begins.number begins.all; kept = begins.first; silent = λ come. come }
     holds (p ∷ later) g fresh = by (holds later g.1 fresh.1) (slice_get_cases (wire (later ++ q ∷ H)) fresh.0.number).1 where
       high : fresh.0.number < length (wire (later ++ q ∷ H))
       high = on_wire lab (later ++ q ∷ H) p fresh.0.number g fresh.0.delivered
@@ -95,9 +105,8 @@ module _ (lab : Lab) (H : List Full) (q : Full) (m : ℕ) (b : Node) (x : List �
           record { each = more (later ++ q ∷ H) p goes.made before.each; kept = goes.stays; silent = silent before goes.silent }
       by before (inr past) = let beyond : length (wire (later ++ q ∷ H)) ≤ fresh.0.number = past.0 in absurd (omega (arith, beyond, high))
 
-    pub none_of_new_brings : (later : List Full) → Grown lab (later ++ q ∷ H) → AreFresh q later → SomeBrings m b x later → ⊥
-    none_of_new_brings later g fresh = (holds later g fresh).silent
+  pub none_of_new_brings : StepOfNew → q.first ≡ length (wire H) → AllByRecursion P (items_of q) → J (q ∷ H) → NoneBrings lab H q m b x
+  none_of_new_brings step number all first = λ later g fresh. (holds step (record { number = number; all = all; first = first }) later g fresh).silent
 
-  pub none_brings : Step → q.first ≡ length (wire H) → AllByRecursion P (items_of q) → J (q ∷ H) → (later : List Full) → Grown lab (later ++ q ∷ H)
-      → AreFresh q later → SomeBrings m b x later → ⊥
+  pub none_brings : Step → q.first ≡ length (wire H) → AllByRecursion P (items_of q) → J (q ∷ H) → NoneBrings lab H q m b x
   none_brings step = none_of_new_brings (λ this new sound is holds. step this sound is holds)

@@ -1,13 +1,13 @@
 -- A packet that goes at once to where its sender doesn't speak to: it leaves from elsewhere than its source says, or is refused on its way. So
 -- whoever gets it drops it, whatever other clients know or are told. And so they do with a packet for the IPv6 Internet that goes where neither
 -- a server nor a relay answers.
-use Rattle.theory_reaching.proofs.Words.{AllByRecursion, AreFresh, Bool, BringsTo, Delivery, Did, Entry, Ep, Full, Grown, Input, Ip6, IsMadeItem, IsMissed, IsReached, Item, List, Node, None, Ok, Option, Send, Some, SomeBrings, Span, [], address_at, ap, armed, arrived, by_way, client, client_in, client_journals, client_settings, deliveries, did_with, entry_input, entry_of, false, false≢true, fields_in, filter_map, from_six, inl, inr, is_some, item_in, journal, nat, native, now, option_and_then, outright, own_ep, part_of, relay, relay_in, relay_settings, same_ep, same_ep-self, server, server_settings, side_at, six_made, slice_get, speaks_to, subst, sym, to_node, true, udp, unwrap_or, way_out, way_to, wire, wire_is_made, words, ℕ, ◌++◌, ◌∙◌, ◌∷◌, ◌≡◌, ◌⊎◌}
+use Rattle.theory_reaching.proofs.Words.{AllByRecursion, Bool, BringsTo, Delivery, Did, Entry, Ep, Full, Grown, Input, Ip6, IsMadeItem, IsMissed, IsReached, Item, List, Node, None, Ok, Option, Send, Some, Span, [], address_at, ap, armed, arrived, by_way, client, client_in, client_journals, client_settings, deliveries, did_with, entry_input, entry_of, false, false≢true, fields_in, filter_map, from_six, inl, inr, is_some, item_in, journal, nat, native, now, option_and_then, outright, own_ep, part_of, relay, relay_in, relay_settings, same_ep, same_ep-self, server, server_settings, side_at, six_made, slice_get, speaks_to, subst, sym, to_node, true, udp, unwrap_or, way_out, way_to, wire, wire_is_made, words, ℕ, ◌++◌, ◌∙◌, ◌∷◌, ◌≡◌, ◌⊎◌}
 use Rattle.server_core.specs.Server.{server_row}
 use Rattle.legal.specs.Deliveries.{to_nobody}
 use Rattle.theory_first_packets.proofs.HandedIn as handed_in
 use Rattle.theory_reaching.proofs.strays.Stray.{IsNothing, at_client, not_its_own, at_another, at_relay}
 use Rattle.theory_reaching.proofs.strays.StrayAtServer.{at_server}
-use Rattle.theory_reaching.proofs.schedules.Throughout.{one_of, Goes, none_brings, OneDelivery}
+use Rattle.theory_reaching.proofs.schedules.Throughout.{Goes, none_brings, NoneBrings, one_of, OneDelivery}
 use Rattle.theory_reaching.proofs.to_native.Unanswered.{brings_nothing}
 use Rattle.theory_reaching.proofs.strays.MovedOut as out
 use Rattle.theory_reaching.proofs.strays.MovedOut.{Moving, IsForNobody}
@@ -143,6 +143,6 @@ module _ (the : Moving) where
       }
 
     -- so no delivery brings it
-    pub none_come : (later : List Full) → Grown lab (later ++ q ∷ H) → AreFresh q later → SomeBrings m b x later → ⊥
+    pub none_come : NoneBrings lab H q m b x
     none_come = none_brings lab H q m b x IsIt Anything (λ this sound is any. step this is)
         (handed_in.number lab H q n (client c) x (out.is_handed_in the)) (out.all_stray the) tt

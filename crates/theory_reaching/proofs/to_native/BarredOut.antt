@@ -80,6 +80,7 @@ barred_is_kept lab H is chained q later n m c h x g at to said sent fresh =
           (by (either (relayed lab H n c h r).barred ((relayed lab H n c h r).asks && (relayed lab H n c h r).bubble_barred) s.barred)) where
             by : ((relayed lab H n c h r).barred ≡ true) ⊎ (((relayed lab H n c h r).asks && (relayed lab H n c h r).bubble_barred) ≡ true)
                 → IsNoTest lab H n h x → SomeBrings m (native h) x later → ⊥
-            by (inl barred) no_test = stays_silent lab H q later n m c h r x (asking r through s) (inl barred) g fresh
+            by (inl barred) no_test = stays_silent (record { lab = lab; H = H; q = q; n = n; m = m; c = c; h = h; r = r; x = x; asks = asking r through s })
+                (inl barred) later g fresh
             by (inr both) no_test =
                 unasked r (asking r through s) (and_parts (relayed lab H n c h r).asks (relayed lab H n c h r).bubble_barred both) no_test

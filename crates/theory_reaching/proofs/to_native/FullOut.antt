@@ -77,12 +77,14 @@ full_is_kept lab H is chained q later n m c h x g at to said sent fresh =
 
             some_full : (has_room (peers_of H n) (now H) h.six ≡ false) ⊎ (has_room (clients_of H h.relay) (now H) (address_at lab H n) ≡ false)
                 → IsNoTest lab H n h x → SomeBrings m (native h) x later → ⊥
-            some_full (inl full) no_test = stays_silent lab H q later n m c h r x asks (inr full) g fresh
+            some_full (inl full) no_test = stays_silent (record { lab = lab; H = H; q = q; n = n; m = m; c = c; h = h; r = r; x = x; asks = asks })
+                (inr full) later g fresh
             some_full (inr full) no_test = relay_full r asks full no_test
 
             both : (b : Bool) → has_room (peers_of H n) (now H) h.six ≡ b → ((relayed lab H n c h r).asks ≡ true)
                 × (not (relayed lab H n c h r).room_for_both ≡ true) → IsNoTest lab H n h x → SomeBrings m (native h) x later → ⊥
-            both false is parts no_test = stays_silent lab H q later n m c h r x asks (inr is) g fresh
+            both false is parts no_test = stays_silent (record { lab = lab; H = H; q = q; n = n; m = m; c = c; h = h; r = r; x = x; asks = asks })
+                (inr is) later g fresh
             both true is parts no_test =
                 let trusts = is_some (known_by_relay H h.relay (address_at lab H n)).trusted in
                 let two = and_parts (not trusts) (not (has_cone (address_at lab H n))) parts.0 in

@@ -66,13 +66,24 @@ stale_is_kept lab H is chained q later n m c h x g at to said sent fresh =
           let second = and_parts w.trusted (not w.listed) first.1 in
           record {
             test = λ is. absurd (none_of_fresh lab H q later n m c h x goes first.0 is);
-            others = λ _. unlisted.none_come lab H q n m c h r x (record {
-              are = outwards.are_relayed lab H q later n m c h x goes r through s.settled;
-              grown = outwards.there lab H q later n m c h x goes;
-              handed = outwards.handed lab H q later n m c h x goes;
-              sound = outwards.sound lab H q later n m c h x goes;
-              fresh = first.0;
-              trusted = second.0;
+            others = λ _. unlisted.none_come (record {
+              lab = lab;
+              H = H;
+              q = q;
+              n = n;
+              m = m;
+              c = c;
+              h = h;
+              r = r;
+              x = x;
+              sent_out = record {
+                are = outwards.are_relayed lab H q later n m c h x goes r through s.settled;
+                grown = outwards.there lab H q later n m c h x goes;
+                handed = outwards.handed lab H q later n m c h x goes;
+                sound = outwards.sound lab H q later n m c h x goes;
+                fresh = first.0;
+                trusted = second.0;
+              };
             }) (failed w.listed second.1) later g fresh;
           }
       of r through (inr s) =

@@ -1,11 +1,11 @@
 -- A fresh schedule after a packet for which the client asks first: the answer to its test isn't let in to it, so the packet never leaves.
-use Rattle.theory_reaching.proofs.Words.{AllByRecursion, AreFresh, EntersPast, Ep, Full, Grown, Ip6, Item, Journal, List, Passing, SomeBrings, address_at, ap, asked_along, asks_at, at_same_moment, embedded, enters_along, false, false≢true, is_led_to, is_some, journal, known, native, nats_of, now, other_journal, relay_mentions, same_ip, same_ip-self, server_ep, still_in, subst, sym, true, ℕ, ◌++◌, ◌∙◌, ◌∷◌, ◌≡◌}
+use Rattle.theory_reaching.proofs.Words.{AllByRecursion, EntersPast, Ep, Full, Ip6, Item, Journal, List, Passing, address_at, ap, asked_along, asks_at, at_same_moment, embedded, enters_along, false, false≢true, is_led_to, is_some, journal, known, native, nats_of, now, other_journal, relay_mentions, same_ip, same_ip-self, server_ep, still_in, subst, sym, true, ℕ, ◌∙◌, ◌∷◌, ◌≡◌}
 use Rattle.theory_reaching.proofs.relays.NodesApart.{client_relay}
 use Rattle.theory_reaching.proofs.relays.RelayEnds.{end, along, way, no_primary}
 use Rattle.theory_reaching.proofs.to_native.TestsOut.{AskingHost, IsTestItem, did, number, next, all_on_way}
 use Rattle.theory_reaching.proofs.to_native.TestsOut.{passed_to, grew}
 use Rattle.theory_reaching.proofs.schedules.OpensElsewhere.{was_let_in}
-use Rattle.theory_reaching.proofs.schedules.Throughout.{none_brings}
+use Rattle.theory_reaching.proofs.schedules.Throughout.{none_brings, NoneBrings}
 use Rattle.theory_reaching.proofs.to_native.TestShut.{IsShutOff, shut_before, step}
 use Rattle.theory_reaching.proofs.to_native.TestUnlike.{IsNoTest}
 use Rattle.theory_reaching.proofs.relays.Relays.{RelayedHosts}
@@ -37,9 +37,17 @@ module _ (the : AskingHost)
       let step = next the in
       let to_asks : server_ep e.server_row.primary ≡ asks_at lab c = ap server_ep (sym e.primary) in
       shut_before the trusts led no_request (enters_along lab H asks.are.grown r.at (nats_of lab c) c.inside (embedded own)
-      (was_let_in lab H q asks.grown step (asks_at lab c) r.at apart
-      (subst (λ (s : Ep). AllByRecursion (λ (p : Passing). p.datagram.dst ≡ s) q.passed) to_asks (passed_to the))
-      (nats_of lab c) c.inside (embedded own) (along the_three).kinds (grew the)
+      (was_let_in (record {
+        lab = lab;
+        H = H;
+        q = q;
+        s = asks_at lab c;
+        src = r.at;
+        g = asks.grown;
+        next = step;
+        other = apart;
+        all = subst (λ (s : Ep). AllByRecursion (λ (p : Passing). p.datagram.dst ≡ s) q.passed) to_asks (passed_to the);
+      }) (nats_of lab c) c.inside (embedded own) (along the_three).kinds (grew the)
       (way the_three)
       (asked_along lab (q ∷ H) asks.grown r.at (nats_of lab c) c.inside (embedded own) enters)))
     where
@@ -60,7 +68,7 @@ module _ (the : AskingHost)
       }
 
   -- so no delivery brings it
-  pub none_come : (later : List Full) → Grown lab (later ++ q ∷ H) → AreFresh q later → SomeBrings m (native h) x later → ⊥
+  pub none_come : NoneBrings lab H q m (native h) x
   none_come = none_brings lab H q m (native h) x IsIt (IsShutOff the trusts led no_request)
       (λ this sound is off.
       step the trusts led no_request this off is) (number the)

@@ -8,7 +8,7 @@ use Rattle.theory_reaching.proofs.to_native.TestUnlike as unlike
 use Rattle.theory_reaching.proofs.to_native.TestUnlike.{IsNoTest}
 use Rattle.theory_reaching.proofs.to_native.TestsOut as out
 use Rattle.theory_reaching.proofs.to_native.TestsOut.{AskingHost, server_row, test, number}
-use Rattle.theory_reaching.proofs.schedules.Throughout.{Goes, none_brings, OneDelivery}
+use Rattle.theory_reaching.proofs.schedules.Throughout.{Goes, none_brings, NoneBrings, OneDelivery}
 use Rattle.theory_reaching.proofs.to_native.Unanswered.{IsVain, for_client, IsUnheard, step, still_unheard, Untrusted, RelayClosed, ClientClosed, ClosedBy}
 use Rattle.theory_reaching.proofs.schedules.OtherRecords.{stays_at, way_still}
 use Rattle.theory_reaching.proofs.relays.NodesApart.{client_relay, server_client, server_relay, native_relay, native_client}
@@ -85,7 +85,7 @@ module _ (the : AskingHost) (hushed : Bool) (plain : hushed ≡ false → has_co
 
   -- so no delivery brings it
   none_come : ClosedBy the_three hushed plain hushed (q ∷ H) → Untrusted the_three hushed plain (journal k H) (now H)
-      → (later : List Full) → Grown lab (later ++ q ∷ H) → AreFresh q later → SomeBrings m (native h) x later → ⊥
+      → NoneBrings lab H q m (native h) x
   none_come closed untrusted = none_brings lab H q m (native h) x IsAsked IsShut
       (λ this sound is shut. goes_on this sound shut is) (number the)
       (out.all_made the IsAsked (asking refl)) (at_first closed untrusted)

@@ -1,11 +1,11 @@
 -- A packet for a native host that goes to its relay at once, where the relay doesn't list the client: it is dropped there.
-use Rattle.theory_reaching.proofs.Words.{AllByRecursion, AreFresh, Arrival, ClientNode, Entry, Ep, Full, Grown, Input, Ip6, Item, Journal, Lab, List, NativeNode, None, Option, ReadsPayload, RelayNode, RelaySettings, Send, Some, SomeBrings, Value, [], address_at, ap, armed, arrival, arrived, at_same_moment, deliveries, embedded, entry_in, false, fields_in, filter_map, is_big, is_listed, is_teredo, item_in, journal, length, listed_is_known, native, node_at, node_is_reached, now, other_journal, outright, own_ep, packet_in, packet_is_payload, read_as, refl, relay, relay_in, relay_mention, relay_mentions, relay_reception_step, relay_settings, relay_standing_at, same_ep-self, six_made, subst, sym, true, udp, unkeyed, unlisted_is_dropped, unwrap_or, value_written, with_entry, wordless_entry, ℕ, ◌++◌, ◌∙◌, ◌∷◌, ◌≡◌}
+use Rattle.theory_reaching.proofs.Words.{AllByRecursion, Arrival, Entry, Ep, Full, Input, Ip6, Item, Journal, List, None, Option, ReadsPayload, RelaySettings, Send, Some, Value, [], address_at, ap, armed, arrival, arrived, at_same_moment, deliveries, embedded, entry_in, false, fields_in, filter_map, is_big, is_listed, is_teredo, item_in, journal, length, listed_is_known, native, node_at, node_is_reached, now, other_journal, outright, own_ep, packet_in, packet_is_payload, read_as, refl, relay, relay_in, relay_mention, relay_mentions, relay_reception_step, relay_settings, relay_standing_at, same_ep-self, six_made, subst, sym, true, udp, unkeyed, unlisted_is_dropped, unwrap_or, value_written, with_entry, wordless_entry, ℕ, ◌++◌, ◌∙◌, ◌∷◌, ◌≡◌}
 use Rattle.teredo_node.specs.declared.fate.Fate.TheVariants as fate
 use Rattle.theory_first_natives.proofs.tables.RelayHears.{seen_here}
 use Rattle.theory_reaching.proofs.relays.NodesApart.{client_relay, relay_native}
 use Rattle.theory_reaching.proofs.relays.RelayEnds.{relay_there}
-use Rattle.theory_reaching.proofs.schedules.Throughout.{Goes, none_brings, OneDelivery}
-use Rattle.theory_reaching.proofs.to_native.ToRelay.{SentOut, IsSentOut, did, small, bytes, number, makes, teredo, fits}
+use Rattle.theory_reaching.proofs.schedules.Throughout.{Goes, NoneBrings, none_brings, OneDelivery}
+use Rattle.theory_reaching.proofs.to_native.ToRelay.{SentOut, did, small, bytes, number, makes, teredo, fits}
 use Rattle.theory_reaching.proofs.clients.Unheard.{as_listed}
 use Rattle.theory_reaching.proofs.relays.Relays.{RelayedHosts}
 
@@ -42,9 +42,10 @@ module _ (s : RelaySettings) (j : List Entry) (n : ℕ) (x : List ℕ) (reads : 
 
 -- THE SCHEDULE
 
-module _ (lab : Lab) (H : List Full) (q : Full) (n m : ℕ) (c : ClientNode) (h : NativeNode) (r : RelayNode)
-    (x : List ℕ) (out : IsSentOut lab H q n m c h r x)
-    (unlisted : is_listed (address_at lab H n) (now H) (relay_mentions (journal h.relay H).entries) ≡ false) where
+module _ (the : SentOut)
+    (unlisted : is_listed (address_at the.lab the.H the.n) (now the.H) (relay_mentions (journal the.h.relay the.H).entries) ≡ false) where
+  open the use {lab, H, q, n, m, c, h, r, x, sent_out}
+
   abbrev own : Ip6
   own = address_at lab H n
 
@@ -52,7 +53,7 @@ module _ (lab : Lab) (H : List Full) (q : Full) (n m : ℕ) (c : ClientNode) (h 
   k = h.relay
 
   abbrev the_three : RelayedHosts
-  the_three = record { lab = lab; H = H; n = n; m = m; c = c; h = h; r = r; are = out.are }
+  the_three = record { lab = lab; H = H; n = n; m = m; c = c; h = h; r = r; are = sent_out.are }
 
   abbrev there : node_at lab.topology k ≡ Some (relay r)
   there = relay_there the_three
@@ -72,24 +73,21 @@ module _ (lab : Lab) (H : List Full) (q : Full) (n m : ℕ) (c : ClientNode) (h 
       node = relay r;
       item = udp (embedded own) r.at x;
       at = at ∙ ap (λ (z : Item). Some z) is;
-      goes = node_is_reached lab G (now G) (udp (embedded own) r.at x) k (relay r) out.are.rules there refl;
+      goes = node_is_reached lab G (now G) (udp (embedded own) r.at x) k (relay r) sent_out.are.rules there refl;
     })
 
     abbrev e : Entry
     e = relay_in (relay_settings lab.topology k r) (journal k G).entries (now G) (embedded own) x
 
-    abbrev the_out : SentOut
-    the_out = record { lab = lab; H = H; q = q; n = n; m = m; c = c; h = h; r = r; x = x; sent_out = out }
-
     it : IsDropped (journal k G).entries (now G) own (embedded own) x e
     it =
-        let src = out.handed.packet.source in
+        let src = sent_out.handed.packet.source in
         subst (λ (z : Ip6). IsDropped (journal k G).entries (now G) z (embedded z) x
         (relay_in (relay_settings lab.topology k r) (journal k G).entries (now G) (embedded z) x)) src
         (is_dropped (relay_settings lab.topology k r) (journal k G).entries (now G) x
-        (packet_is_payload x (fields_in x) (bytes the_out)
-        (fits the_out (length x) out.handed.packet.short) (read_as x out.handed.packet.packet))
-        (small the_out) (ap is_teredo src ∙ teredo the_out)
+        (packet_is_payload x (fields_in x) (bytes the)
+        (fits the (length x) sent_out.handed.packet.short) (read_as x sent_out.handed.packet.packet))
+        (small the) (ap is_teredo src ∙ teredo the)
         (ap (λ (z : Ip6). is_listed z (now G) (relay_mentions (journal k G).entries)) src ∙ not_listed))
 
     nothing : p.made ≡ []
@@ -107,11 +105,9 @@ module _ (lab : Lab) (H : List Full) (q : Full) (n m : ℕ) (c : ClientNode) (h 
     }
 
   -- so no delivery brings it
-  pub none_come : (later : List Full) → Grown lab (later ++ q ∷ H) → AreFresh q later → SomeBrings m (native h) x later → ⊥
+  pub none_come : NoneBrings lab H q m (native h) x
   none_come = none_brings lab H q m (native h) x IsIt IsUnlisted (λ this sound is off. step this is off)
-      (number
-      (record { lab = lab; H = H; q = q; n = n; m = m; c = c; h = h; r = r; x = x; sent_out = out })) (subst (AllByRecursion IsIt) (sym (makes
-      (record { lab = lab; H = H; q = q; n = n; m = m; c = c; h = h; r = r; x = x; sent_out = out }))) (refl, tt))
+      (number the) (subst (AllByRecursion IsIt) (sym (makes the)) (refl, tt))
       (at_same_moment (λ (j : Journal) (t : ℕ). is_listed own t (relay_mentions j.entries) ≡ false) H q k (journal k H)
-      (did (record { lab = lab; H = H; q = q; n = n; m = m; c = c; h = h; r = r; x = x; sent_out = out })).moment
-      (other_journal lab H q n k (did (record { lab = lab; H = H; q = q; n = n; m = m; c = c; h = h; r = r; x = x; sent_out = out })).node (client_relay the_three)) unlisted)
+      (did the).moment
+      (other_journal lab H q n k (did the).node (client_relay the_three)) unlisted)

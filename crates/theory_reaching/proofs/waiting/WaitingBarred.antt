@@ -104,26 +104,39 @@ module _ (lab : Lab) (k : ℕ) (r : RelayNode) (there : node_at lab.topology k �
     its_entry dst (from_six x) = refl
     its_entry dst ticked = refl
 
-    -- a node acted on this
-    acted : (i : ℕ) (a : Node) (dst : Ep) (input : Input) → is_ticked input ≡ false → node_at lab.topology i ≡ Some a → q.node ≡ Some i
-        → q.entry ≡ Some (entry_of lab H (now H) i dst input a) → q.moment ≡ now H → Kept H → Kept (q ∷ H)
-    acted i a dst input no_tick at node did moment before = by (is_node k q.node) refl where
-      mine : k ≡ i → KeptIn (with_entry (journal k H) (entry_of lab H (now H) i dst input a)) (now H)
-      mine same =
-          let one : a ≡ relay r = ap (λ (o : Option Node). unwrap_or o a) (sym at ∙ ap (node_at lab.topology) (sym same) ∙ there) in
-          subst (λ (z : Node). KeptIn (with_entry (journal k H) (entry_of lab H (now H) i dst input z)) (now H)) (sym one)
-          (subst (λ (u : ℕ). KeptIn (with_entry (journal k H) (entry_of lab H (now H) u dst input (relay r))) (now H)) same
-          (subst (λ (e : Entry). KeptIn (with_entry (journal k H) e) (now H)) (its_entry dst input)
-          (kept_by (journal k H).entries (now H) (relay_entry (relay_settings lab.topology k r) (journal k H).entries (now H) input) p
-          (each_adds (relay_settings lab.topology k r) (journal k H).entries (now H) input no_tick) before)))
+    -- node i, which is a, acted on this, which is no tick
+    record Acts : Type 0 where
+      i : ℕ
+      a : Node
+      dst : Ep
+      input : Input
+      no_tick : is_ticked input ≡ false
+      at : node_at lab.topology i ≡ Some a
+      node : q.node ≡ Some i
+      did : q.entry ≡ Some (entry_of lab H (now H) i dst input a)
+      moment : q.moment ≡ now H
 
-      by : (b : Bool) → is_node k q.node ≡ b → Kept (q ∷ H)
-      by true is =
-          let same : k ≡ i = (let e : (k == i) ≡ true = ap (is_node k) (sym node) ∙ is in grind (arith, nat_tests, e)) in
-          with_journal moment (subst (λ (o : Option Entry). KeptIn (with_entries (journal k H) o) (now H)) (sym did) (mine same)) before
-      by false is = subst (λ (u : Journal). KeptIn u q.moment)
-          (sym (ap (λ (b : Bool). cond b (cond (is_restart q.act) (new_journal q.moment) (with_entries (journal k H) q.entry)) (journal k H)) is))
-          (subst (KeptIn (journal k H)) (sym moment) before)
+    module _ (acts : Acts) where
+      open acts use {i, a, dst, input, no_tick, at, node, did, moment}
+
+      acted : Kept H → Kept (q ∷ H)
+      acted before = by (is_node k q.node) refl where
+        mine : k ≡ i → KeptIn (with_entry (journal k H) (entry_of lab H (now H) i dst input a)) (now H)
+        mine same =
+            let one : a ≡ relay r = ap (λ (o : Option Node). unwrap_or o a) (sym at ∙ ap (node_at lab.topology) (sym same) ∙ there) in
+            subst (λ (z : Node). KeptIn (with_entry (journal k H) (entry_of lab H (now H) i dst input z)) (now H)) (sym one)
+            (subst (λ (u : ℕ). KeptIn (with_entry (journal k H) (entry_of lab H (now H) u dst input (relay r))) (now H)) same
+            (subst (λ (e : Entry). KeptIn (with_entry (journal k H) e) (now H)) (its_entry dst input)
+            (kept_by (journal k H).entries (now H) (relay_entry (relay_settings lab.topology k r) (journal k H).entries (now H) input) p
+            (each_adds (relay_settings lab.topology k r) (journal k H).entries (now H) input no_tick) before)))
+
+        by : (b : Bool) → is_node k q.node ≡ b → Kept (q ∷ H)
+        by true is =
+            let same : k ≡ i = (let e : (k == i) ≡ true = ap (is_node k) (sym node) ∙ is in grind (arith, nat_tests, e)) in
+            with_journal moment (subst (λ (o : Option Entry). KeptIn (with_entries (journal k H) o) (now H)) (sym did) (mine same)) before
+        by false is = subst (λ (u : Journal). KeptIn u q.moment)
+            (sym (ap (λ (b : Bool). cond b (cond (is_restart q.act) (new_journal q.moment) (with_entries (journal k H) q.entry)) (journal k H)) is))
+            (subst (KeptIn (journal k H)) (sym moment) before)
 
     -- time passed, and no tick was due
     passed_by : (ms : ℕ) → Grown lab (q ∷ H) → ((x : DueNode) → least_due lab H 0 (nodes lab.topology) ≡ Some x → began H + ms < x.moment)
@@ -182,7 +195,25 @@ module _ (lab : Lab) (k : ℕ) (r : RelayNode) (there : node_at lab.topology k �
     by ih (ticks ms x asked due within is) = absurd (false≢true (
         ap (λ (e : Event). not (is_advance e && has_more e act.Tick)) (sym asked)
         ∙ ap (λ (a : Act). not (is_advance q.asked && has_more q.asked a)) (sym (ap (λ (z : Full). z.act) is)) ∙ over))
-    by ih (handed v i x a hands at is) = acted H q i a no_ep (given x) refl at (ap (λ (z : Full). z.node) is) (ap (λ (z : Full). z.entry) is)
-        (ap (λ (z : Full). z.moment) is) (before ih (not_handing lab H q.asked v i x hands))
-    by ih (reached number i x a delivers at goes to is) = acted H q i a (dst_of x) (input_of x) (item_no_tick x) to (ap (λ (z : Full). z.node) is)
-        (ap (λ (z : Full). z.entry) is) (ap (λ (z : Full). z.moment) is) (before ih (not_delivering H q.asked number delivers))
+    by ih (handed v i x a hands at is) = acted H q (record {
+      i = i;
+      a = a;
+      dst = no_ep;
+      input = given x;
+      no_tick = refl;
+      at = at;
+      node = ap (λ (z : Full). z.node) is;
+      did = ap (λ (z : Full). z.entry) is;
+      moment = ap (λ (z : Full). z.moment) is;
+    }) (before ih (not_handing lab H q.asked v i x hands))
+    by ih (reached number i x a delivers at goes to is) = acted H q (record {
+      i = i;
+      a = a;
+      dst = dst_of x;
+      input = input_of x;
+      no_tick = item_no_tick x;
+      at = to;
+      node = ap (λ (z : Full). z.node) is;
+      did = ap (λ (z : Full). z.entry) is;
+      moment = ap (λ (z : Full). z.moment) is;
+    }) (before ih (not_delivering H q.asked number delivers))
