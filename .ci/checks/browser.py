@@ -6,6 +6,8 @@ import time
 
 from laboratory import WAIT
 
+PATIENCE = 3 * WAIT  # seconds for a page, beside other work of the machine
+
 
 class Browser:
     """Chromium without a window, whose downloads go to a folder."""
@@ -40,7 +42,7 @@ class Browser:
 
     def wait(self, code, *words):
         """Whether something becomes true."""
-        until = time.monotonic() + WAIT
+        until = time.monotonic() + PATIENCE
         while time.monotonic() < until:
             if self.run(f'return {code}', *words):
                 return True
@@ -64,7 +66,7 @@ class Browser:
         if os.path.exists(path):
             os.remove(path)
         self.run('document.querySelector(`[data-save=${arguments[0]}]`).click()', what)
-        until = time.monotonic() + WAIT
+        until = time.monotonic() + PATIENCE
         while time.monotonic() < until:
             if os.path.exists(path) and not glob.glob(os.path.join(self.folder, '*.crdownload')):
                 with open(path, 'rb') as file:
