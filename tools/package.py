@@ -43,6 +43,8 @@ SERVICE = 'tools/service/'
 WORKED = 'tests/worked'  # cases of the gate's, and their names
 FOLDERS = ('docs/', 'tools/', 'examples/', 'tests/', 'bench/')
 PAGES = ('README.md', 'ARCHITECTURE.md', 'CONTRIBUTING.md', 'SECURITY.md', 'CHANGELOG.md')
+# Pages lead to the code of crates, which no package has: there the name stays, and the link goes.
+TO_CODE = re.compile(rb'\[([^\]\n]+)\]\((?:\.\./)?crates/[^)\n]*\)')
 LEFT_OUT = ('tools/package.py', 'tools/proved.py', 'tools/build.py')
 
 
@@ -107,7 +109,8 @@ def contents(origin, options):
         if os.path.exists(os.path.join(command.TOP, path)):
             with open(os.path.join(command.TOP, path), 'rb') as file:
                 may_run = path == 'teredo' or path.endswith(('.py', '.sh')) and file.peek(2)[:2] == b'#!'
-                made[f'{LIB}/{path}'] = file.read(), may_run
+                data = file.read()
+                made[f'{LIB}/{path}'] = TO_CODE.sub(rb'\1', data) if path.endswith('.md') else data, may_run
     return made | system_files()
 
 
