@@ -1,0 +1,5 @@
+use Rattle.state_lines.proofs.Lines.{line_of}
+use Rattle.state_lines.proofs.nat_lines.lets_endpoint_line.Goals as goal
+
+pub returns : goal.returns
+returns c = line_of _ c.begin_line.ensures.text c.put_lets_endpoint.ensures.text c.push_text.ensures

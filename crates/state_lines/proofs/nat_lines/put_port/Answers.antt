@@ -1,0 +1,13 @@
+use Rattle.state_lines.proofs.Words.{before, codes}
+use Rattle.state_lines.proofs.nat_lines.put_port.Goals as goal
+
+pub returns-clause-text : goal.returns-clause-text
+returns-clause-text c =
+    let joined =
+    before c.args.out.now (codes " port ") _ c.push_text.ensures
+    (before c.push_text.new.self _ _ c.put_number.ensures.text
+    (before c.put_number.new.out (codes " inside ") _ c.push_text-2.ensures
+    (before c.push_text-2.new.self _ _ c.put_ep.ensures.text
+    (before c.put_ep.new.out _ _ c.put_toward.ensures.text c.put_until.ensures.text))))
+    in
+    rw (← c.from.ensures) joined

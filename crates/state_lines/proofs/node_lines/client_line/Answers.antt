@@ -1,0 +1,5 @@
+use Rattle.state_lines.proofs.Lines.{line_of}
+use Rattle.state_lines.proofs.node_lines.client_line.Goals as goal
+
+pub returns : goal.returns
+returns c = line_of _ c.begin_line.ensures.text c.put_client.ensures.text c.push_text.ensures

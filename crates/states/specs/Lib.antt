@@ -1,0 +1,5 @@
+pub mod Orders
+pub mod Facts
+pub mod Kept
+pub mod Concerned
+pub mod StateLines

@@ -1,0 +1,33 @@
+//! States: what each NAT, client and relay keeps after a history.
+//!
+//! # What the layer above may rely on
+//!
+//! - What a NAT keeps is its live ports, and whom it lets in at each of them; what a client and a relay keep is when they
+//!   are due and what they know of each listed peer. All of it is read off the history (`specs/Kept.antt`).
+//! - What a record concerned is its node and each NAT that let something of it out (`specs/Concerned.antt`).
+//! - Both have lines (`specs/StateLines.antt`): of all nodes before any record and of what each record concerned, or of
+//!   all nodes in the end.
+//!
+//! # What it does not know
+//!
+//! How any of it is found or written: definitions alone stand here.
+//!
+//! # Parts
+//!
+//! | what is said | in |
+//! |---|---|
+//! | what is kept of one thing | `specs/Facts.antt` |
+//! | what a node keeps, by what happened to it | `specs/Kept.antt` |
+//! | what a record concerned | `specs/Concerned.antt` |
+//! | the lines | `specs/StateLines.antt` |
+//! | lists in an order | `specs/Orders.antt` |
+//!
+//! # Beside the clauses
+//!
+//! What a NAT, a client or a relay keeps after a history, one thing a line. Of a NAT that is each live port with its
+//! inside endpoint, until when it lasts, and whom the NAT lets in there; of a client its phase, its address and when it
+//! is due; of a client and a relay what they know of each listed peer. All of it is read off the history by the
+//! definitions of `nat_kinds`, `qualify`, `client_rules` and `relay_rules`. And what a record concerned: its node, and
+//! each NAT that let something of it out. Definitions alone stand here, in `Facts.antt`, `Kept.antt`, `Concerned.antt`
+//! and `StateLines.antt`, so no call has a clause.
+#![tactic(auto)]
