@@ -29,5 +29,5 @@
 //! is due; of a client and a relay what they know of each listed peer. All of it is read off the history by the
 //! definitions of `nat_kinds`, `qualify`, `client_rules` and `relay_rules`. And what a record concerned: its node, and
 //! each NAT that let something of it out. Definitions alone stand here, in `Facts.antt`, `Kept.antt`, `Concerned.antt`
-//! and `StateLines.antt`, so no call has a clause.
+//! and `StateLines.antt`, so no call has a clause. `worked_lines` computes them on worked scenarios.
 #![tactic(auto)]

@@ -1,0 +1,4 @@
+mod Words
+mod LawProofs
+mod NamedEntries
+mod Renamed

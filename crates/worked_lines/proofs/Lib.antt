@@ -1,0 +1,7 @@
+mod Words
+mod Homes
+mod Telling
+mod KeptFacts
+mod ForgottenFacts
+mod FollowFacts
+mod EndedFacts
