@@ -1,17 +1,23 @@
 """Parts of pages that are made: from the line `<!-- made by .ci/pages --write of SOURCE -->` to the line END.
 
-SOURCE is a tool, whose own help it is; the crates, each with the first sentence of its root file; or docs/parts/fates.txt, whose rows
-have the cells of the table of fates with ` | ` between them.
+SOURCE is a tool, whose own help it is; the crates, each with the first sentence of its root file; docs/parts/fates.txt, whose rows have
+the cells of the table of fates with ` | ` between them; or a folder of examples, each with the first sentence of its first comment and
+with what that has behind `RFC 4380: ` and `Look at: `. Which examples, and in which order, is said by the names in the table's first
+column: a new one is a row with its name in backquotes.
 """
 import ast
 import os
 import re
 
 BEGIN, END = '<!-- made by .ci/pages --write of {source} -->', '<!-- so far -->'
-REGION = re.compile(r'(<!-- made by \.ci/pages --write of (\S+) -->\n).*?(<!-- so far -->)', re.S)
+REGION = re.compile(r'(<!-- made by \.ci/pages --write of (\S+) -->\n)(.*?)(<!-- so far -->)', re.S)
 # Of a longer sentence about a crate its first part.
 CELL_MAX = 150
 CRATES, FATES = 'crates.txt', 'docs/parts/fates.txt'
+# A folder of examples, and what the head of its table calls one.
+EXAMPLES = {'examples/scenarios': 'scenario', 'examples/chains': 'chain'}
+STANDARD, LOOK = 'RFC 4380', 'Look at'
+ROW = re.compile(r'^\| `(\w+)` \|', re.M)
 
 
 def read(top, path):
@@ -35,6 +41,12 @@ def help_of(text):
     return '\n\n'.join(blocks) + '\n'
 
 
+def first_sentence(lines):
+    """The first sentence of some lines, without its full stop; of a longer one what stands before its colon."""
+    said = re.split(r'(?<=[^.][.]) ', ' '.join(lines))[0].rstrip('.')
+    return said if len(said) <= CELL_MAX else said.split(': ')[0]
+
+
 def crates(top):
     """The table of the crates, each with what its root file says first."""
     rows = ['| crate | what it is |', '|---|---|']
@@ -45,8 +57,7 @@ def crates(top):
             if not line.startswith('//! ') or line.startswith('//! #'):
                 break
             first.append(line[4:].strip())
-        said = re.split(r'(?<=[^.][.]) ', ' '.join(first))[0].rstrip('.')
-        rows.append(f'| `{name}` | {said if len(said) <= CELL_MAX else said.split(": ")[0]} |')
+        rows.append(f'| `{name}` | {first_sentence(first)} |')
     return '\n'.join(rows) + '\n'
 
 
@@ -55,8 +66,34 @@ def fates(text):
     return '\n'.join(['| fate | of | means | likely cause | look next |', '|---|---|---|---|---|', *(f'| {row} |'.replace(' |  |', ' | |') for row in rows)]) + '\n'
 
 
-def made(top, source):
-    """What stands between the two lines, or None where nothing is made of the source."""
+def example(text):
+    """The cells of an example from its first comment: what it shows, the sections of the standard, and where to look."""
+    said, marked = [], {}
+    for line in text.splitlines():
+        if not line.startswith('# '):
+            break
+        mark, colon, rest = line[2:].partition(': ')
+        if colon and mark in (STANDARD, LOOK):
+            marked[mark] = rest
+        else:
+            said.append(line[2:])
+    return first_sentence(said), marked.get(STANDARD, ''), marked.get(LOOK, '')
+
+
+def examples(top, folder, old):
+    """The table of those examples of a folder that the table has now; the column of the standard only where one names a section."""
+    names = [name for name in ROW.findall(old) if os.path.exists(os.path.join(top, folder, f'{name}.toml'))]
+    cells = {name: example(read(top, f'{folder}/{name}.toml')) for name in names}
+    columns = [0, 1, 2] if any(cells[name][1] for name in names) else [0, 2]
+    rows = [[EXAMPLES[folder], *(('shows', STANDARD, LOOK.lower())[column] for column in columns)], ['---'] * (1 + len(columns))]
+    rows += [[f'`{name}`', *(cells[name][column] for column in columns)] for name in names]
+    return '\n'.join(f'| {" | ".join(row)} |'.replace(' |  |', ' | |').replace('| --- ', '|---').replace('--- |', '---|') for row in rows) + '\n'
+
+
+def made(top, source, old=''):
+    """What stands between the two lines, where some stood before, or None where nothing is made of the source."""
+    if source in EXAMPLES:
+        return examples(top, source, old)
     if source == CRATES:
         return crates(top)
     if source == FATES:
@@ -68,7 +105,7 @@ def made(top, source):
 
 def renewed(top, page):
     """A page with its parts made anew."""
-    return REGION.sub(lambda found: found[1] + (made(top, found[2]) or '(nothing is made of this)\n') + found[3], page)
+    return REGION.sub(lambda found: found[1] + (made(top, found[2], found[3]) or '(nothing is made of this)\n') + found[4], page)
 
 
 def by_hand(page):

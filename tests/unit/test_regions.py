@@ -1,0 +1,54 @@
+"""The parts of pages that are made of examples."""
+import os
+import tempfile
+import unittest
+
+import regions
+
+PAGE = """# Examples
+
+<!-- made by .ci/pages --write of {folder} -->
+| `two` |
+| `one` | told by hand | |
+| `gone` | there is no such file |
+<!-- so far -->
+
+By hand.
+"""
+
+
+class Examples(unittest.TestCase):
+    def setUp(self):
+        folder = tempfile.TemporaryDirectory()
+        self.addCleanup(folder.cleanup)
+        self.top = folder.name
+
+    def put(self, path, text):
+        os.makedirs(os.path.join(self.top, os.path.dirname(path)), exist_ok=True)
+        with open(os.path.join(self.top, path), 'w', encoding='utf-8') as file:
+            file.write(text)
+
+    def test_the_cells_of_a_comment(self):
+        text = '# Two meet, as\n# one does. And then\n# they part.\n# RFC 4380: 5.2; RFC 5991, 3.2\n# Look at: `sent`: it goes\n# chain: a:b\nseed = 1\n# Look at: nothing\n'
+        self.assertEqual(regions.example(text), ('Two meet, as one does', '5.2; RFC 5991, 3.2', '`sent`: it goes'))
+
+    def test_a_long_sentence_ends_at_its_colon(self):
+        self.assertEqual(regions.first_sentence(['It is lost: ' + 'a' * regions.CELL_MAX + '.']), 'It is lost')
+        self.assertEqual(regions.first_sentence(['It is lost: all of it.', 'Not the rest.']), 'It is lost: all of it')
+
+    def test_the_names_and_their_order_are_those_of_the_table(self):
+        self.put('examples/scenarios/one.toml', '# One.\n# Look at: `a`\nseed = 1\n')
+        self.put('examples/scenarios/two.toml', '# Two.\n# RFC 4380: 5.3\n# Look at: `b`\nseed = 1\n')
+        made = regions.renewed(self.top, PAGE.format(folder='examples/scenarios'))
+        self.assertIn('\n| scenario | shows | RFC 4380 | look at |\n|---|---|---|---|\n| `two` | Two | 5.3 | `b` |\n| `one` | One | | `a` |\n<!-- so far -->\n\nBy hand.\n', made)
+        self.assertEqual(regions.renewed(self.top, made), made)
+        self.assertEqual(regions.by_hand(made), '# Examples\n\n\n\nBy hand.\n')
+
+    def test_no_column_of_the_standard_where_none_names_it(self):
+        self.put('examples/chains/one.toml', '# One.\n# Look at: `a`\n# chain: a:b\nseed = 1\n')
+        made = regions.renewed(self.top, PAGE.format(folder='examples/chains'))
+        self.assertIn('\n| chain | shows | look at |\n|---|---|---|\n| `one` | One | `a` |\n<!-- so far -->', made)
+
+
+if __name__ == '__main__':
+    unittest.main()
