@@ -1,7 +1,7 @@
 """Parts of pages that are made: from the line `<!-- made by .ci/pages --write of SOURCE -->` to the line END.
 
 SOURCE is a tool, whose own help it is; the crates, each with the first sentence of its root file; docs/parts/fates.txt, whose rows have
-the cells of the table of fates with ` | ` between them; or a folder of examples, each with the first sentence of its first comment and
+the cells of the table of fates with ` | ` between them; the schema of scenarios, whose keys or `#events` they are; or a folder of examples, each with the first sentence of its first comment and
 with what that has behind `RFC 4380: ` and `Look at: `. Which examples, and in which order, is said by the names in the table's first
 column: a new one is a row with its name in backquotes.
 """
@@ -9,11 +9,13 @@ import ast
 import os
 import re
 
+import keys
+
 BEGIN, END = '<!-- made by .ci/pages --write of {source} -->', '<!-- so far -->'
 REGION = re.compile(r'(<!-- made by \.ci/pages --write of (\S+) -->\n)(.*?)(<!-- so far -->)', re.S)
 # Of a longer sentence about a crate its first part.
 CELL_MAX = 150
-CRATES, FATES = 'crates.txt', 'docs/parts/fates.txt'
+CRATES, FATES, SCHEMA = 'crates.txt', 'docs/parts/fates.txt', 'docs/scenario.schema.json'
 # A folder of examples, and what the head of its table calls one.
 EXAMPLES = {'examples/scenarios': 'scenario', 'examples/chains': 'chain'}
 STANDARD, LOOK = 'RFC 4380', 'Look at'
@@ -96,6 +98,9 @@ def made(top, source, old=''):
         return examples(top, source, old)
     if source == CRATES:
         return crates(top)
+    path, _, part = source.partition('#')
+    if path == SCHEMA:
+        return keys.made(read(top, path), part)
     if source == FATES:
         return fates(read(top, source))
     if source.startswith('tools/') and os.path.exists(os.path.join(top, source)):
