@@ -1,9 +1,9 @@
 """Parts of pages that are made: from the line `<!-- made by .ci/pages --write of SOURCE -->` to the line END.
 
 SOURCE is a tool, whose own help it is; the crates, each with the first sentence of its root file; docs/parts/fates.txt, whose rows have
-the cells of the table of fates with ` | ` between them; the schema of scenarios, whose keys or `#events` they are; or a folder of examples, each with the first sentence of its first comment and
-with what that has behind `RFC 4380: ` and `Look at: `. Which examples, and in which order, is said by the names in the table's first
-column: a new one is a row with its name in backquotes.
+the cells of the table of fates with ` | ` between them, with `#S` those of a server; the schema of scenarios, whose keys or `#events` they are; or a folder of examples, each with the first sentence of its first comment and
+with what that has behind `RFC 4380: ` and `Look at: `. Which examples, or fates of a node, and in which order, is said by the
+names in the table's first column: a new one is a row with its name in backquotes.
 """
 import ast
 import os
@@ -19,7 +19,7 @@ CRATES, FATES, SCHEMA = 'crates.txt', 'docs/parts/fates.txt', 'docs/scenario.sch
 # A folder of examples, and what the head of its table calls one.
 EXAMPLES = {'examples/scenarios': 'scenario', 'examples/chains': 'chain'}
 STANDARD, LOOK = 'RFC 4380', 'Look at'
-ROW = re.compile(r'^\| `(\w+)` \|', re.M)
+ROW = re.compile(r'^\| (?:\*\*)?`(\w+)`(?:\*\*)? \|', re.M)
 
 
 def read(top, path):
@@ -68,6 +68,15 @@ def fates(text):
     return '\n'.join(['| fate | of | means | likely cause | look next |', '|---|---|---|---|---|', *(f'| {row} |'.replace(' |  |', ' | |') for row in rows)]) + '\n'
 
 
+def fates_of(text, node, old):
+    """What each fate of a node means, and its likely cause: first those that the table has, in their order, then those that it lacks."""
+    rows = [[cell.strip() for cell in line.split('|')] for line in text.splitlines() if line and not line.startswith('#')]
+    cells = {cells[0].strip('*`'): cells for cells in rows if node in cells[1].split(', ')}
+    names = [name for name in dict.fromkeys([*ROW.findall(old), *cells]) if name in cells]
+    rows = [f'| {cells[name][0]} | {cells[name][2]} | {cells[name][3]} |'.replace(' |  |', ' | |') for name in names]
+    return '\n'.join(['| fate | means | likely cause |', '|---|---|---|', *rows]) + '\n'
+
+
 def example(text):
     """The cells of an example from its first comment: what it shows, the sections of the standard, and where to look."""
     said, marked = [], {}
@@ -101,6 +110,8 @@ def made(top, source, old=''):
     path, _, part = source.partition('#')
     if path == SCHEMA:
         return keys.made(read(top, path), part)
+    if path == FATES and part:
+        return fates_of(read(top, path), part, old)
     if source == FATES:
         return fates(read(top, source))
     if source.startswith('tools/') and os.path.exists(os.path.join(top, source)):

@@ -1,4 +1,4 @@
-"""The parts of pages that are made of examples."""
+"""The parts of pages that are made of examples, and of the table of fates."""
 import os
 import tempfile
 import unittest
@@ -48,6 +48,18 @@ class Examples(unittest.TestCase):
         self.put('examples/chains/one.toml', '# One.\n# Look at: `a`\n# chain: a:b\nseed = 1\n')
         made = regions.renewed(self.top, PAGE.format(folder='examples/chains'))
         self.assertIn('\n| chain | shows | look at |\n|---|---|---|\n| `one` | One | `a` |\n<!-- so far -->', made)
+
+
+class Fates(unittest.TestCase):
+    TABLE = '# A head.\n`advert` | S | answered | | whether it gets in\n**`big`** | S, C | too big | a host | its length\n**`off`** | C | not qualified | | `a`\n**`kind`** | S | no bubble | data | who\n'
+
+    def test_those_of_a_node_in_the_order_of_the_table(self):
+        old = '| fate | means |\n|---|---|\n| **`kind`** | told by hand |\n| `off` | of another node |\n| `big` | |\n'
+        self.assertEqual(regions.fates_of(self.TABLE, 'S', old),
+                         '| fate | means | likely cause |\n|---|---|---|\n| **`kind`** | no bubble | data |\n| **`big`** | too big | a host |\n| `advert` | answered | |\n')
+
+    def test_all_of_them(self):
+        self.assertIn('\n| `advert` | S | answered | | whether it gets in |\n', regions.fates(self.TABLE))
 
 
 if __name__ == '__main__':
