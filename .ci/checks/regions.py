@@ -1,21 +1,28 @@
 """Parts of pages that are made: from the line `<!-- made by .ci/pages --write of SOURCE -->` to the line END.
 
-SOURCE is a tool, whose own help it is; the crates, each with the first sentence of its root file; docs/parts/fates.txt, whose rows have
-the cells of the table of fates with ` | ` between them, with `#S` those of a server; the schema of scenarios, whose keys or `#events` they are; or a folder of examples, each with the first sentence of its first comment and
-with what that has behind `RFC 4380: ` and `Look at: `. Which examples, or fates of a node, and in which order, is said by the
-names in the table's first column: a new one is a row with its name in backquotes.
+SOURCE is
+- a tool, whose own help it is;
+- the crates, each with the first sentence of its root file;
+- docs/parts/fates.txt, whose rows have the cells of the table of fates with ` | ` between them, with `#S` those of a server;
+- the schema of scenarios, whose keys it is, with `#events` its events;
+- docs/COMMANDS.md itself, whose sections have the statuses;
+- a folder of examples, each with the first sentence of its first comment, and with what that has behind `RFC 4380: ` and `Look at: `.
+
+Which examples, or fates of a node, and in which order, is said by the names in the table's first column: a new one is a row with its
+name in backquotes.
 """
 import ast
 import os
 import re
 
 import keys
+import statuses
 
 BEGIN, END = '<!-- made by .ci/pages --write of {source} -->', '<!-- so far -->'
 REGION = re.compile(r'(<!-- made by \.ci/pages --write of (\S+) -->\n)(.*?)(<!-- so far -->)', re.S)
 # Of a longer sentence about a crate its first part.
 CELL_MAX = 150
-CRATES, FATES, SCHEMA = 'crates.txt', 'docs/parts/fates.txt', 'docs/scenario.schema.json'
+CRATES, FATES, SCHEMA, COMMANDS = 'crates.txt', 'docs/parts/fates.txt', 'docs/scenario.schema.json', 'docs/COMMANDS.md'
 # A folder of examples, and what the head of its table calls one.
 EXAMPLES = {'examples/scenarios': 'scenario', 'examples/chains': 'chain'}
 STANDARD, LOOK = 'RFC 4380', 'Look at'
@@ -110,6 +117,8 @@ def made(top, source, old=''):
     path, _, part = source.partition('#')
     if path == SCHEMA:
         return keys.made(read(top, path), part)
+    if path == COMMANDS:
+        return statuses.made(read(top, path))
     if path == FATES and part:
         return fates_of(read(top, path), part, old)
     if source == FATES:
