@@ -33,7 +33,7 @@ def of_drop(travels: Travels, record: Record) -> str:
 
 def of_loss(loss: Loss) -> str:
     if loss.word == 'hairpin':
-        return f'a NAT doesn\'t send back to itself what is for its own address, {loss.target}: sender and peer are behind one NAT'
+        return 'sender and peer are behind one NAT, which doesn\'t send back what is for its own address'
     if loss.word == 'fault':
         return f'the send failed, as `fault` let it, and {loss.maker.node} doesn\'t know: nothing went out to {loss.target}'
     if loss.word == 'full':
@@ -142,7 +142,7 @@ def restarted(report: Report, client: str, until: Record) -> str:
 def two_ports(report: Report, client: str, until: Record) -> str:
     asked = {record.fate: record.entries for record in report.of_node(client, until) if record.fate in SOLICITATIONS}
     seen = [entries[0].source for fate, entries in asked.items() if fate in ('rs_restricted', 'rs_secondary') and entries]
-    return 'it is seen at ' + ' and at '.join(seen)
+    return 'the server sees the client at ' + ' and at '.join(seen)
 
 
 def of_solicitation(travels: Travels, client: str, until: Record) -> str:
