@@ -135,7 +135,7 @@ Playing = Union[Player, Stored]
 def player_of(program: str, seconds: float = SECONDS_MAX, once: bool = False) -> Playing:
     """Who plays: the program, or where none is named and none is built the examples alone. Who asks `once` gets others by a trial."""
     try:
-        return Player(command.built(program, is_quiet=once), seconds)
+        return Player(command.built(program, is_quiet=True), seconds)
     except command.Refusal as fault:
         if fault.status != command.NOT_BUILT:
             raise
