@@ -1,6 +1,6 @@
 """The premises of theorems on histories, read off the specs.
 
-A theorem on histories is a law of a crate of laws, whose calls take nothing, that `promises` gathers and that stands over `legal`.
+A theorem on histories is a law of a crate of laws, whose calls take nothing, that `theory_promises` gathers and that stands over `legal`.
 A premise is a record over histories of such a crate that stands before an arrow in what a theorem states, or that a premise asks
 for. One before an arrow that leads to nothing is none: that is a denial.
 """
@@ -25,7 +25,7 @@ def is_of_laws(files, crate):
 
 
 def crates_of(files, uses):
-    """The crates of laws below `promises`, over `legal`."""
+    """The crates of laws below `theory_promises`, over `legal`."""
     below, ahead = set(), [GATHERS]
     while ahead:
         new = {name for name in uses.get(ahead.pop(), ()) if name in uses} - below
