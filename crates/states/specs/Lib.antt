@@ -3,3 +3,4 @@ pub mod Facts
 pub mod Kept
 pub mod Concerned
 pub mod StateLines
+pub mod Marked

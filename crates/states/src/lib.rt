@@ -5,12 +5,13 @@
 //! - What a NAT keeps is its live ports, and whom it lets in at each of them; what a client and a relay keep is when they
 //!   are due and what they know of each listed peer. All of it is read off the history (`specs/Kept.antt`).
 //! - What a record concerned is its node and each NAT that let something of it out (`specs/Concerned.antt`).
+//! - Where the NAT of a client is behind no other one, the marks of a record tell what it let out (`specs/Marked.antt`).
 //! - Both have lines (`specs/StateLines.antt`): of all nodes before any record and of what each record concerned, or of
 //!   all nodes in the end.
 //!
 //! # What it does not know
 //!
-//! How any of it is found or written: definitions alone stand here.
+//! How any of it is found or written: definitions stand here, and a law of them.
 //!
 //! # Parts
 //!
@@ -21,6 +22,7 @@
 //! | what a record concerned | `specs/Concerned.antt` |
 //! | the lines | `specs/StateLines.antt` |
 //! | lists in an order | `specs/Orders.antt` |
+//! | what marks tell of a NAT | `specs/Marked.antt`; `laws` |
 //!
 //! # Beside the clauses
 //!
@@ -28,6 +30,10 @@
 //! inside endpoint, until when it lasts, and whom the NAT lets in there; of a client its phase, its address and when it
 //! is due; of a client and a relay what they know of each listed peer. All of it is read off the history by the
 //! definitions of `nat_kinds`, `qualify`, `client_rules` and `relay_rules`. And what a record concerned: its node, and
-//! each NAT that let something of it out. Definitions alone stand here, in `Facts.antt`, `Kept.antt`, `Concerned.antt`
-//! and `StateLines.antt`, so no call has a clause. `worked_lines` computes them on worked scenarios.
+//! each NAT that let something of it out. The definitions are in `Facts.antt`, `Kept.antt`, `Concerned.antt` and
+//! `StateLines.antt`, and no call does anything. `worked_lines` computes them on worked scenarios.
 #![tactic(auto)]
+
+mod laws;
+
+pub use laws::passed_is_marked;

@@ -1,0 +1,2 @@
+mod LawProofs
+mod OnePassing
