@@ -1,5 +1,5 @@
 -- A node's entries with the numbers of their records in place of their packets mean the same for its peers, but for these names.
-use Rattle.loads.proofs.Words.{Bearing, Bool, Entry, Ep, Fate, Full, Held, IfSome, Journal, List, Node, None, Option, Some, [], ap, arith, bearing_of, client, false, has_any, held_of, held_with, is_changed, is_node, is_restart, journal, length, map, mention, mentions, mentions_by, nat, nat_tests, native, no_bearing, nonce_of_words, numbered, option_map, packet_at, packet_by, packet_for, refl, relay, relay_bearing_of, relay_mention, relay_mentions, server, source_of, sym, touching, true, with_entries, with_number, ℕ, ◌<◌, ◌==◌, ◌∙◌, ◌∷◌, ◌≡◌}
+use Rattle.loads.proofs.Words.{Bearing, Bool, Entry, Ep, Fate, Full, Held, IfSome, Journal, List, Node, None, Option, Some, [], ap, arith, bearing_of, client, false, has_any, held_of, held_with, is_changed, is_node, is_restart, journal, length, map, mention, mentions, mentions_by, nat, nat_tests, native, no_bearing, nonce_of_words, option_map, packet_by, packet_for, packet_of_record, refl, relay, relay_bearing_of, relay_mention, relay_mentions, server, source_of, sym, touching, true, with_entries, with_number, with_record_numbers, ℕ, ◌<◌, ◌==◌, ◌∙◌, ◌∷◌, ◌≡◌}
 use Rattle.teredo_node.specs.declared.fate.Fate.TheVariants as fate
 use Rattle.loads.proofs.Renamed.{bearing_with, renamed}
 
@@ -94,13 +94,13 @@ module _ (g : List ℕ → List ℕ) where
     by None is = tt
     by (Some e) is = of e is e.packet refl
 
-  pub journal_named : (H : List Full) (n : ℕ) → TellsPackets H → AreNamed (journal n H).entries (journal n (numbered H)).entries
+  pub journal_named : (H : List Full) (n : ℕ) → TellsPackets H → AreNamed (journal n H).entries (journal n (with_record_numbers H)).entries
   journal_named [] n tells = tt
   journal_named (r ∷ H) n tells = by (journal_named H n tells.1) (is_node n r.node) refl (is_restart r.act) refl where
-    by : AreNamed (journal n H).entries (journal n (numbered H)).entries → (b : Bool) → is_node n r.node ≡ b → (c : Bool) → is_restart r.act ≡ c
-        → AreNamed (journal n (r ∷ H)).entries (journal n (numbered (r ∷ H))).entries
+    by : AreNamed (journal n H).entries (journal n (with_record_numbers H)).entries → (b : Bool) → is_node n r.node ≡ b → (c : Bool) → is_restart r.act ≡ c
+        → AreNamed (journal n (r ∷ H)).entries (journal n (with_record_numbers (r ∷ H))).entries
     by more true its true anew = rw (its, anew) tt
-    by more true its false on = rw (its, on) (entries_named (length H) r.entry (journal n H) (journal n (numbered H)) (entry_named r (length H) tells.0) more)
+    by more true its false on = rw (its, on) (entries_named (length H) r.entry (journal n H) (journal n (with_record_numbers H)) (entry_named r (length H) tells.0) more)
     by more false other c act = rw other more
 
 -- THE PACKETS OF A HISTORY
@@ -112,7 +112,7 @@ other_number : (i j : ℕ) → i < j → (i == j) ≡ false
 other_number i j lt = grind (arith, nat_tests)
 
 -- so it is of the packets of a history, among those of a longer one that begins with it
-packets_told : (W H : List Full) → ((i : ℕ) → i < length H → packet_at W i ≡ packet_at H i) → TellsPackets (packet_for W) H
+packets_told : (W H : List Full) → ((i : ℕ) → i < length H → packet_of_record W i ≡ packet_of_record H i) → TellsPackets (packet_for W) H
 packets_told W [] agrees = tt
 packets_told W (r ∷ H) agrees = (
   agrees (length H) (omega arith) ∙ rw (same_number (length H)) refl,

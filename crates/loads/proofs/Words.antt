@@ -25,5 +25,5 @@ pub use Rattle.topology.specs.declared.node.Node.{Node}
 pub use Rattle.topology.specs.declared.node.Node.TheVariants.{Client as client, Nat as nat, Native as native, Relay as relay, Server as server}
 pub use Rattle.history.specs.Full.{Full}
 pub use Rattle.legal.specs.Past.{is_node, is_restart, journal, with_entries}
-pub use Rattle.loads.specs.Images.{KnownIsImage, held_with, packet_at, packet_by, packet_for, peer_with}
-pub use Rattle.loads.specs.Numbered.{mentions_by, numbered, numbered_mentions, with_number}
+pub use Rattle.loads.specs.Images.{KnownIsImage, held_with, packet_by, packet_for, packet_of_record, peer_with}
+pub use Rattle.loads.specs.Numbered.{mentions_by, numbered_mentions, with_number, with_record_numbers}

@@ -11,8 +11,8 @@ use Rattle.topology.specs.Topology.{nodes}
 use Rattle.history.specs.Full.{Full}
 use Rattle.legal.specs.Past.{now, was_delivered}
 use Rattle.loads.specs.Numbered.{numbered_mentions, waiting_for, HeldRecord, held_for}
-use Rattle.loads.specs.Loads.{Load, packet, reply_to, Loads, load_at, hands_in, loads}
-use Rattle.loads.specs.Sayings.{Way, arrives, Saying, said}
+use Rattle.loads.specs.Loads.{Load, packet, reply_to, Loads, load_at, is_handing_in, loads}
+use Rattle.loads.specs.Sayings.{Way, arrives, Saying, sayings_of}
 
 -- *end*, of a load: where it is after a history, by the first of these that holds.
 pub data End : Type 0 where
@@ -36,23 +36,23 @@ is_load l (Some k) = same_load l k
 -- WHAT RECORDS SAID
 
 -- a saying, with its record and the number of that
-pub record Told : Type 0 where
+pub record NumberedSaying : Type 0 where
   pub number : ℕ
   pub by : Full
   pub saying : Saying
 
 -- a saying of record r, whose number is i
-abbrev pub told_by : ℕ → Full → Saying → Told
-told_by i r s = record { number = i; by = r; saying = s }
+abbrev pub saying_by : ℕ → Full → Saying → NumberedSaying
+saying_by i r s = record { number = i; by = r; saying = s }
 
 -- all that the records of a history said of loads, in order
-abbrev pub told : TopologyState → List Full → List Told
-told t [] = []
-told t (r ∷ H) = told t H ++ map (told_by (length H) r) (said t H (loads t H) r)
+abbrev pub all_sayings : TopologyState → List Full → List NumberedSaying
+all_sayings t [] = []
+all_sayings t (r ∷ H) = all_sayings t H ++ map (saying_by (length H) r) (sayings_of t H (loads t H) r)
 
 -- The saying is of this load.
-abbrev pub is_of : Load → Told → Bool
-is_of l s = same_load l s.saying.load
+abbrev pub is_said_of : Load → NumberedSaying → Bool
+is_said_of l s = same_load l s.saying.load
 
 -- By this it arrives.
 abbrev pub is_arrival : Way → Bool
@@ -60,16 +60,16 @@ is_arrival arrives = true
 is_arrival _ = false
 
 -- By this saying the load arrives.
-abbrev pub is_arrival_of : Load → Told → Bool
-is_arrival_of l s = is_of l s && is_arrival s.saying.way
+abbrev pub is_arrival_of : Load → NumberedSaying → Bool
+is_arrival_of l s = is_said_of l s && is_arrival s.saying.way
 
 -- the number of the record that said the first of these
-abbrev pub first_number : List Told → Option ℕ
+abbrev pub first_number : List NumberedSaying → Option ℕ
 first_number [] = None
 first_number (s ∷ more) = Some s.number
 
 -- the number of the record that said the last of these
-abbrev pub last_number_of : List Told → Option ℕ
+abbrev pub last_number_of : List NumberedSaying → Option ℕ
 last_number_of ss = first_number (reverse ss)
 
 -- WHO KEEPS IT
@@ -109,38 +109,38 @@ open_entry H l i (x ∷ xs) = if is_load l x && not (was_delivered i H) then Som
 -- THE END
 
 -- Where a load is after a history, if anything carried it. `ls` is what was carried, and `ts` what was said.
-abbrev pub end_of : TopologyState → List Full → Loads → List Told → Load → Option End
+abbrev pub end_of : TopologyState → List Full → Loads → List NumberedSaying → Load → Option End
 end_of t H ls ts l = option_or (option_map arrived (first_number (filter (is_arrival_of l) ts)))
     (option_or (option_map waits_at (waiting_node t H ls l))
     (option_or (option_map held_at (holding_node t H ls l))
     (option_or (option_map on_wire (open_entry H l 0 ls.wire))
-    (option_map was_lost (last_number_of (filter (is_of l) ts))))))
+    (option_map was_lost (last_number_of (filter (is_said_of l) ts))))))
 
 -- THE PACKETS
 
 -- a packet that was handed in: its number, that of the record, and the node
-pub record HandedIn : Type 0 where
+pub record NumberedPacket : Type 0 where
   pub number : ℕ
   pub record_number : ℕ
   pub node : Option ℕ
 
 -- the packet that a record hands in, if it does
-abbrev pub handed_in_by : (hands : Bool) → ℕ → ℕ → Full → List HandedIn
+abbrev pub handed_in_by : (hands : Bool) → ℕ → ℕ → Full → List NumberedPacket
 handed_in_by true number i r = record { number = number; record_number = i; node = r.node } ∷ []
 handed_in_by false number i r = []
 
 -- all packets that were handed in during a history, in order
-abbrev pub handed_in : List Full → List HandedIn
+abbrev pub handed_in : List Full → List NumberedPacket
 handed_in [] = []
-handed_in (r ∷ H) = handed_in H ++ handed_in_by (hands_in r.act) (length (handed_in H)) (length H) r
+handed_in (r ∷ H) = handed_in H ++ handed_in_by (is_handing_in r.act) (length (handed_in H)) (length H) r
 
 -- a packet, where it is, and where its reply is, if something carried one
 pub record Whereabouts : Type 0 where
-  pub packet_in : HandedIn
+  pub packet_in : NumberedPacket
   pub is_at : Option End
   pub reply_is_at : Option End
 
 -- where each packet of a history is, in order
-abbrev pub whereabouts : TopologyState → List Full → Loads → List Told → List Whereabouts
+abbrev pub whereabouts : TopologyState → List Full → Loads → List NumberedSaying → List Whereabouts
 whereabouts t H ls ts =
-    map (λ (p : HandedIn). record { packet_in = p; is_at = end_of t H ls ts (packet p.number); reply_is_at = end_of t H ls ts (reply_to p.number) }) (handed_in H)
+    map (λ (p : NumberedPacket). record { packet_in = p; is_at = end_of t H ls ts (packet p.number); reply_is_at = end_of t H ls ts (reply_to p.number) }) (handed_in H)

@@ -6,7 +6,7 @@ use Rattle.history.specs.Full.{Full}
 use Rattle.report.specs.Lines.{node_text, mark_text}
 use Rattle.loads.specs.Loads.{Load, packet, reply_to, loads}
 use Rattle.loads.specs.Sayings.{Way, goes, waits, held, arrives, ends}
-use Rattle.loads.specs.Ends.{End, arrived, waits_at, held_at, on_wire, was_lost, Told, told, Whereabouts, whereabouts}
+use Rattle.loads.specs.Ends.{End, arrived, waits_at, held_at, on_wire, was_lost, NumberedSaying, all_sayings, Whereabouts, whereabouts}
 
 -- the text of a load
 abbrev pub load_text : Load → List ℕ
@@ -26,12 +26,12 @@ abbrev pub front_text : TopologyState → ℕ → Full → List ℕ
 front_text t i r = decimal i ++ (codes " " ++ (decimal r.moment ++ (codes " " ++ (node_text t r.node ++ (codes " " ++ fate_word r.fate)))))
 
 -- the line on what a record does with a load
-abbrev pub told_line : TopologyState → Told → List ℕ
+abbrev pub told_line : TopologyState → NumberedSaying → List ℕ
 told_line t s = front_text t s.number s.by ++ (load_text s.saying.load ++ (way_text t s.saying.way ++ codes "\n"))
 
 -- the lines on what each record of a history does with loads, in order
 abbrev pub follow_lines : TopologyState → List Full → List (List ℕ)
-follow_lines t H = map (told_line t) (told t H)
+follow_lines t H = map (told_line t) (all_sayings t H)
 
 -- THE END
 
@@ -54,8 +54,8 @@ back_text t None = []
 back_text t (Some e) = codes " back" ++ end_text t e
 
 -- the line on where a packet is: packet K I NODE, then its end, then that of its reply
-abbrev pub packet_line : TopologyState → Whereabouts → List ℕ
-packet_line t w = codes "packet " ++ (decimal w.packet_in.number ++ (codes " " ++ (decimal w.packet_in.record_number ++ (codes " " ++ (node_text t w.packet_in.node
+abbrev pub whereabouts_line : TopologyState → Whereabouts → List ℕ
+whereabouts_line t w = codes "packet " ++ (decimal w.packet_in.number ++ (codes " " ++ (decimal w.packet_in.record_number ++ (codes " " ++ (node_text t w.packet_in.node
     ++ (end_text_if t w.is_at ++ (back_text t w.reply_is_at ++ codes "\n")))))))
 
 -- how many packets have an end that passes
@@ -98,8 +98,8 @@ packets_line ws = codes "total packets " ++ (decimal (length ws)
 
 -- a line on each packet, and the last one
 abbrev pub lines_of_ends : TopologyState → List Whereabouts → List (List ℕ)
-lines_of_ends t ws = map (packet_line t) ws ++ packets_line ws ∷ []
+lines_of_ends t ws = map (whereabouts_line t) ws ++ packets_line ws ∷ []
 
 -- the lines on where each packet of a history is, and the last one
 abbrev pub end_lines : TopologyState → List Full → List (List ℕ)
-end_lines t H = lines_of_ends t (whereabouts t H (loads t H) (told t H))
+end_lines t H = lines_of_ends t (whereabouts t H (loads t H) (all_sayings t H))

@@ -14,13 +14,13 @@ abbrev pub packet_by : Full → List ℕ
 packet_by r = unwrap_or (option_and_then (λ (e : Entry). e.packet) r.entry) []
 
 -- the packet of record i
-abbrev pub packet_at : List Full → ℕ → List ℕ
-packet_at [] i = []
-packet_at (r ∷ H) i = if i == length H then packet_by r else packet_at H i
+abbrev pub packet_of_record : List Full → ℕ → List ℕ
+packet_of_record [] i = []
+packet_of_record (r ∷ H) i = if i == length H then packet_by r else packet_of_record H i
 
 -- the packet of the record whose number stands here
 abbrev pub packet_for : List Full → List ℕ → List ℕ
-packet_for H x = packet_at H (number_in x)
+packet_for H x = packet_of_record H (number_in x)
 
 -- a held packet, with another in its place
 abbrev pub held_with : (List ℕ → List ℕ) → Held → Held

@@ -39,34 +39,34 @@ load_at loads i = get_or loads i None
 -- WHAT A RECORD IS GIVEN
 
 -- By this act a host hands in a packet.
-abbrev pub hands_in : Act → Bool
-hands_in (act.Plain verb.Host) = true
-hands_in (act.Plain verb.Echo) = true
-hands_in (act.Plain verb.Raw) = true
-hands_in _ = false
+abbrev pub is_handing_in : Act → Bool
+is_handing_in (act.Plain verb.Host) = true
+is_handing_in (act.Plain verb.Echo) = true
+is_handing_in (act.Plain verb.Raw) = true
+is_handing_in _ = false
 
 -- what a record is given: the next packet, where a host hands one in, or else what the entry carries that it delivers
-abbrev pub given_to : Loads → Full → Option Load
-given_to l r = if hands_in r.act then Some (packet l.packets) else option_and_then (load_at l.wire) r.delivered
+abbrev pub load_given : Loads → Full → Option Load
+load_given l r = if is_handing_in r.act then Some (packet l.packets) else option_and_then (load_at l.wire) r.delivered
 
 -- WHAT IT RELEASES
 
 -- By these fates all that waits for the packet's source is sent to it, before all else: the client or relay heard it (RFC 4380,
 -- sections 5.2.3 and 5.4.2).
-abbrev pub releases : Fate → Bool
-releases fate.Rule1 = true
-releases fate.Rule1Bubble = true
-releases fate.Rule2 = true
-releases fate.Rule3 = true
-releases fate.Rule3Bubble = true
-releases fate.FromClient = true
-releases fate.FromClientBubble = true
-releases fate.Unserved = true
-releases _ = false
+abbrev pub releases_all : Fate → Bool
+releases_all fate.Rule1 = true
+releases_all fate.Rule1Bubble = true
+releases_all fate.Rule2 = true
+releases_all fate.Rule3 = true
+releases_all fate.Rule3Bubble = true
+releases_all fate.FromClient = true
+releases_all fate.FromClientBubble = true
+releases_all fate.Unserved = true
+releases_all _ = false
 
 -- the peer that an entry is about, or else the unspecified address
-abbrev pub peer_in : Option Entry → Ip6
-peer_in e = unwrap_or (option_and_then (λ (x : Entry). x.peer) e) unspecified
+abbrev pub entry_peer : Option Entry → Ip6
+entry_peer e = unwrap_or (option_and_then (λ (x : Entry). x.peer) e) unspecified
 
 -- what a record's node says of its peers before the record, with numbers in place of packets
 abbrev pub mentions_if : List Full → ℕ → Option Node → List Mention
@@ -79,28 +79,28 @@ mentions_at t H None = []
 mentions_at t H (Some n) = mentions_if H n (node_at t n)
 
 -- the numbers of the records whose packets waited for the peer of the record after H, and are sent to it by that
-abbrev pub released : TopologyState → List Full → Full → List ℕ
-released t H r = if releases r.fate then waiting_for (mentions_at t H r.node) r.moment (peer_in r.entry) else []
+abbrev pub released_records : TopologyState → List Full → Full → List ℕ
+released_records t H r = if releases_all r.fate then waiting_for (mentions_at t H r.node) r.moment (entry_peer r.entry) else []
 
 -- WHAT CARRIES
 
 -- What is made besides, where the record was given this load: by these fates it goes on (RFC 4380, sections 5.2.4, 5.3.1,
 -- 5.4.1 and 5.4.2), or is answered.
-abbrev pub goes_on : Fate → Option Load → List (Option Load)
-goes_on fate.Sent l = l ∷ []
-goes_on fate.SentCone l = l ∷ []
-goes_on fate.SentSix l = l ∷ []
-goes_on fate.Forward l = l ∷ []
-goes_on fate.ForwardOrigin l = l ∷ []
-goes_on fate.Six l = l ∷ []
-goes_on fate.FromClient l = l ∷ []
-goes_on fate.Echoed l = answer_to l ∷ []
-goes_on _ l = []
+abbrev pub load_goes_on : Fate → Option Load → List (Option Load)
+load_goes_on fate.Sent l = l ∷ []
+load_goes_on fate.SentCone l = l ∷ []
+load_goes_on fate.SentSix l = l ∷ []
+load_goes_on fate.Forward l = l ∷ []
+load_goes_on fate.ForwardOrigin l = l ∷ []
+load_goes_on fate.Six l = l ∷ []
+load_goes_on fate.FromClient l = l ∷ []
+load_goes_on fate.Echoed l = answer_to l ∷ []
+load_goes_on _ l = []
 
 -- What the sends and entries of a record carry, in order: first what was released, then what goes on. Those behind carry
 -- nothing.
 abbrev pub made_loads : TopologyState → List Full → Loads → Full → List (Option Load)
-made_loads t H l r = map (load_at l.records) (released t H r) ++ goes_on r.fate (given_to l r)
+made_loads t H l r = map (load_at l.records) (released_records t H r) ++ load_goes_on r.fate (load_given l r)
 
 -- of what a record's sends carry, what those carry that became entries
 abbrev pub entry_loads : List Made → List (Option Load) → List (Option Load)
@@ -111,8 +111,8 @@ entry_loads (lost why dst bytes ∷ made) loads = entry_loads made (drop 1 loads
 -- what was carried, with the record after H
 abbrev pub with_record : TopologyState → List Full → Full → Loads → Loads
 with_record t H r l = record {
-  packets = if hands_in r.act then l.packets + 1 else l.packets;
-  records = l.records ++ given_to l r ∷ [];
+  packets = if is_handing_in r.act then l.packets + 1 else l.packets;
+  records = l.records ++ load_given l r ∷ [];
   wire = l.wire ++ entry_loads r.made (made_loads t H l r);
 }
 

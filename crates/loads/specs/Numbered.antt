@@ -19,9 +19,9 @@ abbrev pub with_number : ℕ → Entry → Entry
 with_number i e = record e { packet = option_map (λ (x : List ℕ). i ∷ []) e.packet }
 
 -- a history in which the number of its record stands in place of each packet
-abbrev pub numbered : List Full → List Full
-numbered [] = []
-numbered (r ∷ H) = record r { entry = option_map (with_number (length H)) r.entry } ∷ numbered H
+abbrev pub with_record_numbers : List Full → List Full
+with_record_numbers [] = []
+with_record_numbers (r ∷ H) = record r { entry = option_map (with_number (length H)) r.entry } ∷ with_record_numbers H
 
 -- What a node's journal says of its peers. A server, a NAT and a native host have none.
 abbrev pub mentions_by : Node → List Entry → List Mention
@@ -33,7 +33,7 @@ mentions_by (native h) j = []
 
 -- what the journal of node n, which is a, says of its peers, with the numbers of records in place of packets
 abbrev pub numbered_mentions : List Full → ℕ → Node → List Mention
-numbered_mentions H n a = mentions_by a (journal n (numbered H)).entries
+numbered_mentions H n a = mentions_by a (journal n (with_record_numbers H)).entries
 
 -- the number that stands where a packet stood
 abbrev pub number_in : List ℕ → ℕ

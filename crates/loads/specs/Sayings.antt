@@ -16,7 +16,7 @@ use Rattle.history.specs.Records.{marks_of}
 use Rattle.legal.specs.Past.{is_restart}
 use Rattle.states.specs.Kept.{listed_in_order}
 use Rattle.loads.specs.Numbered.{waiting_for, HeldRecord, held_for}
-use Rattle.loads.specs.Loads.{Load, answer_to, Loads, load_at, given_to, peer_in, mentions_at, released}
+use Rattle.loads.specs.Loads.{Load, answer_to, Loads, load_at, load_given, entry_peer, mentions_at, released_records}
 
 -- what a record does with a load
 pub data Way : Type 0 where
@@ -112,7 +112,7 @@ dropped_peers j r = if drops_peers r then listed_in_order j r.moment else []
 
 -- the numbers of the records whose packets wait, and are dropped by a record
 abbrev pub dropped_records : List Mention → Full → List ℕ
-dropped_records j r = if gives_up r.fate then waiting_for j r.moment (peer_in r.entry) else flat_map (waiting_for j r.moment) (dropped_peers j r)
+dropped_records j r = if gives_up r.fate then waiting_for j r.moment (entry_peer r.entry) else flat_map (waiting_for j r.moment) (dropped_peers j r)
 
 -- WHAT WAS HELD
 
@@ -125,7 +125,7 @@ ends_holding _ = false
 
 -- the packets that are held and end by a record, in order
 abbrev pub ended_records : List Mention → Full → List HeldRecord
-ended_records j r = if ends_holding r.fate then held_for j r.moment (peer_in r.entry) else flat_map (held_for j r.moment) (dropped_peers j r)
+ended_records j r = if ends_holding r.fate then held_for j r.moment (entry_peer r.entry) else flat_map (held_for j r.moment) (dropped_peers j r)
 
 -- where the datagram of an entry came from, if it has one
 abbrev pub came_from : Option Entry → Option Ep
@@ -138,13 +138,13 @@ is_from None ep = false
 is_from (Some from) ep = same_ep ep from
 
 -- By this fate packets that were held are handed over: rule 2 (RFC 4380, section 5.2.3).
-abbrev pub hands_late : Fate → Bool
-hands_late fate.Rule2 = true
-hands_late _ = false
+abbrev pub hands_over_held : Fate → Bool
+hands_over_held fate.Rule2 = true
+hands_over_held _ = false
 
 -- A packet that was held is handed over now: by rule 2, where it came from where the record's datagram did.
 abbrev pub is_late : Full → HeldRecord → Bool
-is_late r h = hands_late r.fate && is_from (came_from r.entry) h.from
+is_late r h = hands_over_held r.fate && is_from (came_from r.entry) h.from
 
 -- of what was held: that each of these packets arrives, where it is handed over now, or ends
 abbrev pub said_of_ended : Loads → Full → List HeldRecord → List Saying
@@ -154,10 +154,10 @@ said_of_ended l r hs = flat_map (λ (h : HeldRecord). saying (arrives_if (is_lat
 
 -- all that a record says, where it releases the packets of the records of these numbers
 abbrev pub said_with : List Mention → Loads → Full → List ℕ → List Saying
-said_with j l r numbers = said_of_given r (given_to l r) (slice_get (marks_by r) (length numbers))
+said_with j l r numbers = said_of_given r (load_given l r) (slice_get (marks_by r) (length numbers))
     ++ (said_of_released (marks_by r) (map (load_at l.records) numbers)
     ++ (said_to_end l (dropped_records j r) ++ said_of_ended l r (ended_records j r)))
 
 -- *said*, of a load: what the record after H does with each load that it concerns. `l` is what was carried before.
-abbrev pub said : TopologyState → List Full → Loads → Full → List Saying
-said t H l r = said_with (mentions_at t H r.node) l r (released t H r)
+abbrev pub sayings_of : TopologyState → List Full → Loads → Full → List Saying
+sayings_of t H l r = said_with (mentions_at t H r.node) l r (released_records t H r)
