@@ -1,5 +1,5 @@
 //! The line on a client or a relay of a world, its peers aside.
-ghost use Rattle.std.specs.Prelude.{◌≡◌, ◌<◌, List, Some};
+ghost use Rattle.std.specs.Prelude.{◌≡◌, ◌<◌, false, List, Some};
 ghost use Rattle.td_base.specs.declared.millis.TheConstants.{CLOCK_END_MS};
 ghost use Rattle.teredo_node.specs.Journal.{Entry, Journal, Words};
 ghost use Rattle.qualify.specs.declared.settings.Settings.{Settings};
@@ -59,12 +59,14 @@ fn relay_own_line(t: &Topology, stamp: Stamp, relay: &Relay, out: &mut LineBuf)
 /// and answers whether the node is such a one.
 pub fn own_line(world: &World<'_>, index: u64, number: u16, out: &mut LineBuf) -> bool
     requires early { world.now.moment < CLOCK_END_MS }
-    /// For every history that a world stands for, `own_line` gives the line on a client or a relay after it, and none on any other node:
-    /// of a client its phase and its address, and of both when they are due.
+    /// For every history that a world stands for, `own_line` gives the line on a client or a relay after it: of a client its phase
+    /// and its address, and of both when they are due. Of any other node it gives none, and the buffer stays as it was.
     /// Needs: that the moment of the world is one of a clock.
     /// Leaves open: what is known of peers.
-    ensures { (d : Draws) (H : List Full) → StandsFor d world.now H → TellsFact world.now.topology (Some index) world.now.moment number
+    ensures line { (d : Draws) (H : List Full) → StandsFor d world.now H → TellsFact world.now.topology (Some index) world.now.moment number
         (own_fact world.now.topology (journal number H) world.now.moment (node_at world.now.topology number)) result out.new }
+    /// See `own_line`: `line`.
+    ensures untouched { result ≡ false → out.new ≡ out.old }
 {
     let Some(node) = world.node(number) else {
         return false;

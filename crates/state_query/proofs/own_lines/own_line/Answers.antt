@@ -7,8 +7,8 @@ use Rattle.lab_nodes.specs.PlayedNode.{row_of}
 use Rattle.world.specs.World.{lab_in}
 use Rattle.state_query.proofs.own_lines.own_line.Goals as goal
 
-pub returns-in-Client : goal.returns-in-Client
-returns-in-Client c = λ d H s.
+pub returns-in-Client-clause-line : goal.returns-in-Client-clause-line
+returns-in-Client-clause-line c = λ d H s.
     let n = c.args.number in
     let there = sym c.in-Some.ensures.row ∙ ap (λ (p : PlayedNode). Some (row_of p)) c.in-Client.is in
     let kept = s.nodes.each n (played.Client c.in-Client.row c.in-Client.client) (sym c.in-Some.ensures.kept ∙ ap (λ (p : PlayedNode). Some p) c.in-Client.is) in
@@ -16,8 +16,8 @@ returns-in-Client c = λ d H s.
     let told = rw (c.topology.ensures, c.moment.ensures) at line in
     rw there (refl, told)
 
-pub returns-in-Relay : goal.returns-in-Relay
-returns-in-Relay c = λ d H s.
+pub returns-in-Relay-clause-line : goal.returns-in-Relay-clause-line
+returns-in-Relay-clause-line c = λ d H s.
     let n = c.args.number in
     let there = sym c.in-Some.ensures.row ∙ ap (λ (p : PlayedNode). Some (row_of p)) c.in-Relay.is in
     let kept = s.nodes.each n (played.Relay c.in-Relay.row c.in-Relay.relay) (sym c.in-Some.ensures.kept ∙ ap (λ (p : PlayedNode). Some p) c.in-Relay.is) in
