@@ -1,5 +1,5 @@
 -- What is done with a payload by one line.
-use Rattle.client_core.proofs.Words.{Client, DropsDatagram, Entry, Ep, Fate, IsDatagramOf, IsOfServer, Journal, List, None, OnlyPeers, Option, Peer, QualifierStandsFor, QualifierState, Some, Span, Step, TakesPayload, Updates, Value, [], after, after_words, ap, arith, bears_nothing, calls_of_an_entry, direct_bubble, entry_about, false, hands_late, heard_at, is_changed, just, known_to, le_refl, length, map, mention, option_to_list, origin_in, own_address, reception_step, refl, releases, rest_of, says_nothing, sending, settings_of, standing_in, subst, sym, tried_at, trusted_at, turn, with_entry, words_ahead, ℕ, ◌+◌, ◌-◌, ◌∷◌, ◌≡◌, ◌≤◌}
+use Rattle.client_core.proofs.Words.{Client, DropsDatagram, Entry, Ep, Fate, IsDatagramOf, IsOfServer, Journal, List, None, OnlyPeers, Option, Peer, QualifierStandsFor, QualifierState, Some, Span, Step, TakesPayload, Updates, Value, [], after, after_words, ap, arith, bears_nothing, calls_of_an_entry, concerns_peer, direct_bubble, entry_about, false, hands_late, heard_at, is_changed, just, known_to, le_refl, length, map, mention, option_to_list, origin_in, own_address, reception_step, refl, releases, rest_of, says_nothing, sending, settings_of, standing_in, subst, sym, tried_at, true, trusted_at, turn, with_entry, words_ahead, ℕ, ◌+◌, ◌-◌, ◌∷◌, ◌≡◌, ◌≤◌}
 use Rattle.teredo_node.specs.declared.fate.Fate.TheVariants as fate
 use Rattle.client_core.proofs.Entered.{bears_enters, peers_on, none_enters}
 
@@ -11,6 +11,7 @@ pub record Acts (old : Client) (n : ℕ) (from : Ep) (v : Value) (f : Fate) (new
   pub clock : old.peers.moment ≤ n
   pub peers : Updates old.peers new.peers n v.packet.src peer
   pub means : (x : List ℕ) → IsDatagramOf x v → after (mention (entry_about old n from x v.packet.src step)) (known_to old.peers n v.packet.src) ≡ peer
+  pub concerns : (x : List ℕ) → IsDatagramOf x v → concerns_peer (mention (entry_about old n from x v.packet.src step)).bearing ≡ true
   pub epoch : is_changed step.fate ≡ false
   pub quiet : turn step.fate ≡ says_nothing
   pub qualifier : new.qualifier ≡ old.qualifier
@@ -24,6 +25,7 @@ acts_receives old new n from v f a = record {
     of_peer = record {
       peer = refl;
       epoch = a.epoch;
+      concerns = a.concerns x is;
       clock = a.clock;
       peers = subst (λ (p : Peer). Updates old.peers new.peers n v.packet.src p) (sym (a.means x is)) a.peers;
     };
@@ -87,6 +89,7 @@ rule1 old new n from v o =
       clock = o.clock;
       peers = o.peers;
       means = λ x is. (calls_of_an_entry n (known_to old.peers n v.packet.src) (Some v.packet.src)).hear;
+      concerns = λ x is. refl;
       epoch = refl;
       quiet = refl;
       qualifier = o.qualifier;
@@ -103,6 +106,7 @@ rule1_bubble old new n from v o =
       clock = o.clock;
       peers = o.peers;
       means = λ x is. (calls_of_an_entry n (known_to old.peers n v.packet.src) (Some v.packet.src)).hear;
+      concerns = λ x is. refl;
       epoch = refl;
       quiet = refl;
       qualifier = o.qualifier;
@@ -119,6 +123,7 @@ rule2 old new n from v o =
       clock = o.clock;
       peers = o.peers;
       means = λ x is. (calls_of_an_entry n (known_to old.peers n v.packet.src) (Some v.packet.src)).trust_and_hear from;
+      concerns = λ x is. refl;
       epoch = refl;
       quiet = refl;
       qualifier = o.qualifier;
@@ -135,6 +140,7 @@ rule3 old new n from v o =
       clock = o.clock;
       peers = o.peers;
       means = λ x is. (calls_of_an_entry n (known_to old.peers n v.packet.src) (Some v.packet.src)).trust_and_hear from;
+      concerns = λ x is. refl;
       epoch = refl;
       quiet = refl;
       qualifier = o.qualifier;
@@ -151,6 +157,7 @@ rule3_bubble old new n from v o =
       clock = o.clock;
       peers = o.peers;
       means = λ x is. (calls_of_an_entry n (known_to old.peers n v.packet.src) (Some v.packet.src)).trust_and_hear from;
+      concerns = λ x is. refl;
       epoch = refl;
       quiet = refl;
       qualifier = o.qualifier;
@@ -180,6 +187,7 @@ indirect old new n from v to a = record {
         peers = peers_on old new e v.packet.src (record {
           peer = refl;
           epoch = refl;
+          concerns = refl;
           clock = a.clock;
           peers = subst (λ (p : Peer). Updates old.peers new.peers n v.packet.src p)
               (sym ((calls_of_an_entry n (known_to old.peers n v.packet.src) (Some v.packet.src)).tried None)) a.peers;

@@ -1,5 +1,5 @@
 -- One entry more: what a client then stands for.
-use Rattle.client_core.proofs.Words.{AsBefore, Bool, Client, ClientStandsFor, Does, Enters, Entry, Ip6, Journal, KeepsAll, List, MeansNothing, Mention, None, QualifierStandsFor, QualifierState, Some, StandsForMentions, Table, Updates, [], after, after_words, ap, bears_nothing, entry, false, from_six, idle_stands, if◌then◌else◌, is_changed, just, keeps_still, kept_stands, known_to, le_refl, mention, mentions, next_mentions, next_stands, qualification, refl, says_nothing, stands_by, stands_whole, subst, sym, true, turn_of, with_entry, words_ahead, ℕ, ◌∙◌, ◌∷◌, ◌≡◌, ◌≤◌}
+use Rattle.client_core.proofs.Words.{AsBefore, Bool, Client, ClientStandsFor, Does, Enters, Entry, Ip6, Journal, KeepsAll, List, MeansNothing, Mention, None, QualifierStandsFor, QualifierState, Some, StandsForMentions, Table, Updates, [], after, after_words, ap, bears_nothing, concerns_peer, entry, false, from_six, idle_stands, if◌then◌else◌, is_changed, just, keeps_still, kept_stands, known_to, le_refl, mention, mentions, next_mentions, next_stands, qualification, refl, says_nothing, stands_by, stands_whole, subst, sym, true, turn_of, with_entry, words_ahead, ℕ, ◌∙◌, ◌∷◌, ◌≡◌, ◌≤◌}
 use Rattle.teredo_node.specs.declared.fate.Fate.TheVariants as fate
 
 -- QUALIFICATION
@@ -26,6 +26,7 @@ peers_idle t j e same idle h = subst (λ (ms : List Mention). StandsForMentions 
 pub record OfPeer (old : Client) (e : Entry) (who : Ip6) (new : Client) : Type 0 where
   pub peer : e.peer ≡ Some who
   pub epoch : is_changed e.step.fate ≡ false
+  pub concerns : concerns_peer (mention e).bearing ≡ true
   pub clock : old.peers.moment ≤ e.moment
   pub peers : Updates old.peers new.peers e.moment who (after (mention e) (known_to old.peers e.moment who))
 
@@ -39,7 +40,7 @@ pub record Bears (old : Client) (e : Entry) (who : Ip6) (new : Client) : Type 0 
 pub peers_on : (old new : Client) (e : Entry) (who : Ip6) → OfPeer old e who new → (j : Journal) → ClientStandsFor old j → StandsForMentions new.peers (mentions (e ∷ j.entries))
 peers_on old new e who b j h =
     subst (λ (ms : List Mention). StandsForMentions new.peers ms) (sym (mentioned e j.entries b.epoch))
-    (next_stands old.peers new.peers (mention e) (mentions j.entries) who h.peers b.clock b.peer b.peers)
+    (next_stands old.peers new.peers (mention e) (mentions j.entries) who h.peers b.clock b.peer b.concerns b.peers)
 
 pub bears_enters : (old new : Client) (e : Entry) (who : Ip6) → Bears old e who new → Enters old e new
 bears_enters old new e who b = record {

@@ -1,5 +1,5 @@
 -- What is done with a payload whose packet is held, or whose source is tested (rule 6).
-use Rattle.client_core.proofs.Words.{Bearing, Client, Ep, Ip6, List, OnlyPeers, Option, Peer, Some, TakesPayload, Updates, Value, after, after_words, ap, calls_of_an_entry, found_is_listed, held_at, held_of, is_some, just, known_to, no_bearing, nonce_from, packet_bytes, packet_in, peer_in, refl, tested, tried_at, true, words_ahead, ℕ, ◌∙◌, ◌≡◌, ◌≤◌}
+use Rattle.client_core.proofs.Words.{Bearing, Client, Ep, Ip6, List, OnlyPeers, Option, Peer, Some, TakesPayload, Updates, Value, after, after_words, ap, calls_of_an_entry, concerns_peer, found_is_listed, held_at, held_of, is_some, just, known_to, no_bearing, nonce_from, packet_bytes, packet_in, peer_in, refl, tested, tried_at, true, words_ahead, ℕ, ◌∙◌, ◌≡◌, ◌≤◌}
 use Rattle.teredo_node.specs.declared.fate.Fate.TheVariants as fate
 use Rattle.client_core.proofs.Acts.{acts_receives}
 
@@ -26,6 +26,7 @@ suspicious_test old new n from v t =
       clock = t.clock;
       peers = t.peers;
       means = λ x is. (calls_of_an_entry n known (Some v.packet.src)).tried (Some (nonce_from (words_ahead old)));
+      concerns = λ x is. refl;
       epoch = refl;
       quiet = refl;
       qualifier = t.qualifier;
@@ -64,6 +65,7 @@ held_test old new n from v t =
       peers = t.peers;
       means = λ x is. holds_here x v from (tries_with nonce) n known is.packet
           ∙ (calls_of_an_entry n known (Some v.packet.src)).hold_tried from (packet_bytes v.packet) (Some nonce);
+      concerns = λ x is. refl;
       epoch = refl;
       quiet = refl;
       qualifier = t.qualifier;
@@ -84,6 +86,7 @@ held old new n from v listed o =
       peers = o.peers;
       means = λ x is. holds_here x v from as_it_is n known is.packet
           ∙ (calls_of_an_entry n known (Some v.packet.src)).hold from (packet_bytes v.packet) (found_is_listed old.peers n v.packet.src listed);
+      concerns = λ x is. ap (λ (o : Option (List ℕ)). concerns_peer (record no_bearing { holds = held_of (Some from) o })) is.packet;
       epoch = refl;
       quiet = refl;
       qualifier = o.qualifier;

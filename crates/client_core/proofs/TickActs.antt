@@ -1,5 +1,5 @@
 -- What a client stands for after a tick about a peer, and after a packet that waits.
-use Rattle.client_core.proofs.Words.{Bool, Client, Enters, Ip6, List, None, OnlyPeers, Peer, Send, Settings, Some, Standing, Step, Table, TriesUnless, Updates, Words, [], after, after_words, both_bubbles, calls_of_an_entry, drawn_words, emptied, entry, false, false≢true, given, has_any, has_cone, if◌then◌else◌, is_changed, is_teredo, just, known_to, mention, nonce_of_words, own_address, queued_at, queues, refl, says_nothing, sending, settings_of, subst, sym, ticked, touch_goes_on, tried_at, tries_by, true, try_fate, try_nonce, try_sends, try_words, turn, words_ahead, ℕ, ◌∷◌, ◌≡◌, ◌≤◌}
+use Rattle.client_core.proofs.Words.{Bool, Client, Enters, Ip6, List, None, OnlyPeers, Peer, Send, Settings, Some, Standing, Step, Table, TriesUnless, Updates, Words, [], after, after_words, both_bubbles, calls_of_an_entry, concerns_peer, drawn_words, emptied, entry, false, false≢true, given, has_any, has_cone, if◌then◌else◌, is_changed, is_teredo, just, known_to, mention, nonce_of_words, own_address, queued_at, queues, refl, says_nothing, sending, settings_of, subst, sym, ticked, touch_goes_on, tried_at, tries_by, true, try_fate, try_nonce, try_sends, try_words, turn, words_ahead, ℕ, ◌∷◌, ◌≡◌, ◌≤◌}
 use Rattle.teredo_node.specs.declared.fate.Fate.TheVariants as fate
 use Rattle.client_core.proofs.Entered.{bears_enters}
 
@@ -14,6 +14,7 @@ gave_up old new n who gone o =
       of_peer = record {
         peer = refl;
         epoch = refl;
+        concerns = refl;
         clock = o.clock;
         peers = subst (λ (p : Peer). Updates old.peers new.peers n who p) (sym (calls_of_an_entry n (known_to old.peers n who) (Some who)).give_up) o.peers;
       };
@@ -34,6 +35,10 @@ try_epoch : (b : Bool) → is_changed (try_fate b) ≡ false
 try_epoch true = refl
 try_epoch false = refl
 
+try_concerns : (n : ℕ) (who : Ip6) (w : Words) (sends : List Send) (b : Bool) → concerns_peer (mention (entry n ticked None (Some who) w (try_step b sends))).bearing ≡ true
+try_concerns n who w sends true = refl
+try_concerns n who w sends false = refl
+
 try_quiet : (b : Bool) → turn (try_fate b) ≡ says_nothing
 try_quiet true = refl
 try_quiet false = refl
@@ -53,6 +58,7 @@ tried_again old new n who sends t =
       of_peer = record {
         peer = refl;
         epoch = try_epoch (is_teredo who);
+        concerns = try_concerns n who (words_ahead old) sends (is_teredo who);
         clock = t.clock;
         peers = subst (λ (p : Peer). Updates old.peers new.peers n who p) (sym (try_means n who (words_ahead old) sends (known_to old.peers n who) (is_teredo who))) t.peers;
       };
@@ -102,6 +108,7 @@ queued old new n who x true k =
       of_peer = record {
         peer = refl;
         epoch = refl;
+        concerns = refl;
         clock = k.clock;
         peers = subst (λ (p : Peer). Updates old.peers new.peers n who p) (sym ((calls_of_an_entry n (known_to old.peers n who) (Some who)).wait x))
             (subst (λ (t : Table). Updates old.peers t n who (queued_at n x (known_to old.peers n who))) (sym k.tries) k.waits);
@@ -118,6 +125,7 @@ queued old new n who x false k =
       of_peer = record {
         peer = refl;
         epoch = refl;
+        concerns = refl;
         clock = k.clock;
         peers = subst (λ (p : Peer). Updates old.peers new.peers n who p)
             (sym (queued_means n who x (words_ahead old) sends (known_to old.peers n who) (try_sends_any (settings_of old) own who (words_ahead old))))

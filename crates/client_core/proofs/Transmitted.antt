@@ -93,6 +93,7 @@ sent old new n x p to g = transmitted old new n x p (sending fate.Sent (send to 
     of_peer = record {
       peer = refl;
       epoch = refl;
+      concerns = refl;
       clock = g.touched.clock;
       peers = subst (λ (k : Peer). Updates old.peers new.peers n p.dst k) (sym (calls_of_an_entry n (known_to old.peers n p.dst) (Some p.dst)).touch) g.touched.peers;
     };

@@ -39,7 +39,7 @@ pub use Rattle.peer_list.specs.Calls.{TriesUnless, Updates, emptied, heard_at, h
 pub use Rattle.peer_list.specs.Judged.{due_of}
 unfoldable pub use Rattle.peer_list.specs.Judged.{holds_most, is_trusted_at}
 pub use Rattle.peer_list.specs.Laws.{after}
-pub use Rattle.peer_list.specs.Mentions.{Bearing, Mention, no_bearing}
+pub use Rattle.peer_list.specs.Mentions.{Bearing, Mention, concerns_peer, no_bearing}
 pub use Rattle.peer_list.specs.Overdue.{IsNoSooner, IsSooner, due_by, due_moment, listing_at, overdue_in}
 pub use Rattle.peer_list.specs.Peers.{Peer, no_peer, peer_at}
 pub use Rattle.peer_list.specs.Stands.{MeansNothing, SaysTheSame, StandsForMentions, about_nobody, bears_nothing}

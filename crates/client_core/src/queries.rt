@@ -1,6 +1,7 @@
 //! What a client tells of an address.
 ghost use Rattle.std.specs.Prelude.{◌≡◌, ◌≤◌, length, option_map, unwrap_or, is_some};
 ghost use Rattle.teredo_node.specs.Journal.{Journal};
+ghost use Rattle.peer_list.specs.Mentions.{latest_peer};
 ghost use Rattle.peer_list.specs.Listed.{is_listed, listed, has_room};
 ghost use Rattle.peer_list.specs.Peers.{no_peer, known};
 ghost use Rattle.client_rules.specs.Bearings.{mentions};
@@ -33,6 +34,17 @@ impl Client {
         ensures { (j : Journal) → ClientStandsFor self.now j → result ≡ has_room (mentions j.entries) now.0 who }
     {
         self.peers.has_room(now, who)
+    }
+
+    /// The peer of which the client changed last what it knows: whom it listed, touched, held a packet of, or gave up, since
+    /// it started or its address changed.
+    pub fn latest_peer(&self) -> Option<Ip6>
+        /// The latest peer of a client is the one that its journal's latest entry concerns of those that concern one. It is
+        /// stated in `peer_list/Mentions.antt`.
+        /// Leaves open: whether that peer is still listed.
+        ensures { (j : Journal) → ClientStandsFor self.now j → result ≡ latest_peer (mentions j.entries) }
+    {
+        self.peers.latest()
     }
 
     /// How many addresses are listed.

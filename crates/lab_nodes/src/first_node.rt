@@ -118,6 +118,7 @@ fn first_node(
     ensures kept { IfOk result (λ p. (chain : List Behind) → IsKept topology.now number (past_of (lab_on (draws seed) topology.now chain) number []) p) }
     ensures ready { IfOk result (λ p. IsReady 0 p) }
 {
+    // for the proof: its rules
     let _rules = topology.clients();
     Ok(match node {
         Node::Server(row) => PlayedNode::Server { row },

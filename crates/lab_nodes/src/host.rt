@@ -21,9 +21,10 @@ use teredo_addr::UNSPECIFIED;
 /// The most bytes of a packet with a host's data.
 pub const DATA_MAX: usize = HEADER + BODY_MAX;
 
-/// How many bytes an echo request of a host has: those of its message, which has no data, and of its packet.
+/// How many bytes the message of an echo request has, which has no data (RFC 4443, section 4.1).
 const ECHO_MESSAGE: usize = 8;
 
+/// How many bytes an echo request of a host has: a packet's header, and its message.
 pub const ECHO: usize = HEADER + ECHO_MESSAGE;
 
 /// Writes a packet with a host's data, and answers its length.

@@ -1,5 +1,5 @@
 -- What a call that lists a peer finds once it has taken out whoever isn't listed any more.
-use Rattle.peer_list.proofs.Words.{AllByRecursion, AreApart, Bool, Ip6, Keeps, List, Listing, None, Option, PEERS_MAX, Peer, Some, Table, Updates, [], ap, arith, cond, false, false≢true, filter, find, has_room_in, holds_most, is_full, is_listed_at, is_of, is_some, known_to, length, listed_in, nat_lt, no_peer, peer_in, peer_listed, refl, same_ip6, subst, sym, table, touched_at, true, unwrap_or, while_listed, ℕ, ◌||◌, ◌∙◌, ◌∷◌, ◌≡◌}
+use Rattle.peer_list.proofs.Words.{AllByRecursion, AreApart, Bool, Ip6, KnowsStill, KnowsThen, List, Listing, None, Option, PEERS_MAX, Peer, Some, Table, [], ap, arith, cond, false, false≢true, filter, find, has_room_in, holds_most, is_full, is_listed_at, is_of, is_some, known_to, length, listed_in, nat_lt, no_peer, peer_in, peer_listed, refl, same_ip6, subst, sym, table, touched_at, true, unwrap_or, while_listed, ℕ, ◌||◌, ◌∙◌, ◌∷◌, ◌≡◌}
 use Rattle.peer_list.proofs.DueLemmas.{count_is}
 use Rattle.peer_list.proofs.ListingLemmas.{purged, known_there, updates_by}
 
@@ -8,8 +8,8 @@ pub record Purged (m : ℕ) (ls kept : List Listing) : Type 0 where
   pub apart : AreApart ls
   pub is : kept ≡ filter (is_listed_at m) ls
 
-pub keeps_purged : (m : ℕ) (ls kept : List Listing) → Purged m ls kept → Keeps (table m ls) (table m kept) m
-keeps_purged m ls kept p = subst (λ ks. Keeps (table m ls) (table m ks) m) (sym p.is) (purged m ls p.apart)
+pub keeps_purged : (m : ℕ) (ls kept : List Listing) → Purged m ls kept → KnowsStill (table m ls) (table m kept) m
+keeps_purged m ls kept p = subst (λ ks. KnowsStill (table m ls) (table m ks) m) (sym p.is) (purged m ls p.apart)
 
 peer_purged : (m : ℕ) (ls kept : List Listing) (who : Ip6) → Purged m ls kept → peer_in (table m kept) m who ≡ peer_in (table m ls) m who
 peer_purged m ls kept who p = (keeps_purged m ls kept p).view m who (omega arith)
@@ -56,17 +56,17 @@ room_nowhere m ls kept who p none =
 
 -- WHAT IS LEFT
 
-then_updates : (a b c : Table) (m : ℕ) (who : Ip6) (peer : Peer) → Keeps a b m → Updates b c m who peer → Updates a c m who peer
+then_updates : (a b c : Table) (m : ℕ) (who : Ip6) (peer : Peer) → KnowsStill a b m → KnowsThen b c m who peer → KnowsThen a c m who peer
 then_updates a b c m who peer k u = record { moment = u.moment; view = λ n p l. u.view n p l ∙ ap (λ o. cond (same_ip6 p who) (while_listed n peer) o) (k.view n p l) }
 
 -- one address has a listing of its own, or another one
 pub updates_purged : (m : ℕ) (ls kept items : List Listing) (who : Ip6) (l : Listing) → Purged m ls kept → ((p : Ip6) → find (is_of p) items ≡ cond (same_ip6 p who) (Some l) (find (is_of p) kept))
-    → Updates (table m ls) (table m items) m who l.peer
+    → KnowsThen (table m ls) (table m items) m who l.peer
 updates_purged m ls kept items who l p is =
     then_updates (table m ls) (table m kept) (table m items) m who l.peer (keeps_purged m ls kept p) (updates_by (table m kept) (table m items) m who l refl is)
 
-pub keeps_same : (m : ℕ) (ls kept items : List Listing) → Purged m ls kept → items ≡ kept → Keeps (table m ls) (table m items) m
-keeps_same m ls kept items p is = subst (λ ks. Keeps (table m ls) (table m ks) m) (sym is) (keeps_purged m ls kept p)
+pub keeps_same : (m : ℕ) (ls kept items : List Listing) → Purged m ls kept → items ≡ kept → KnowsStill (table m ls) (table m items) m
+keeps_same m ls kept items p is = subst (λ ks. KnowsStill (table m ls) (table m ks) m) (sym is) (keeps_purged m ls kept p)
 
 -- A PEER THAT IS NEW HAS ROOM
 

@@ -1,5 +1,5 @@
 -- What a call on one entry leaves: what stays true, and what each address finds.
-use Rattle.peer_list.proofs.Words.{AreInTurn, AreKept, AreWhole, AreWholeBut, ContainsKey, Entries, Ip6, IsAfter, IsSince, Listing, Millis, NameEachOther, None, Option, Peer, Slab, Some, Updates, Updates-with_value, ap, arith, cases_eq, cmp_ip6, cond, entry_due, entry_under, find, get, inl, inr, is_of, is_some, key_of, known_to, listings_of, peer_in, refl, same_ip6, subst, sym, table, true, with_peer_at, with_value, ℕ, ◌∙◌, ◌≡◌, ◌≤◌}
+use Rattle.peer_list.proofs.Words.{AreInTurn, AreKept, AreWhole, AreWholeBut, ContainsKey, Entries, Ip6, IsAfter, IsSince, KnowsThen, Listing, Millis, NameEachOther, None, Option, Peer, Slab, Some, Updates-with_value, ap, arith, cases_eq, cmp_ip6, cond, entry_due, entry_under, find, get, inl, inr, is_of, is_some, key_of, known_to, listings_of, peer_in, refl, same_ip6, subst, sym, table_after, true, with_peer_at, with_value, ℕ, ◌∙◌, ◌≡◌, ◌≤◌}
 use Rattle.std.specs.BTreeMap as map
 use Rattle.peer_list.proofs.OrderLemmas.{turn_same}
 use Rattle.peer_list.proofs.ListingLemmas.{updates_by, known_there}
@@ -66,8 +66,9 @@ module _ {old new : Entries} {key : ℕ} {l : Listing} {peer : Peer} (a : IsAfte
       finds_after w p ∙ ap (λ q. cond (same_ip6 p q) (Some (with_peer_at l peer)) (find (is_of p) (listings_of old))) same
 
   -- so the table is updated at that address
-  pub updates_after : (k m : ℕ) (who : Ip6) → AreWhole old → key_of old who ≡ Some key → Updates (table k (listings_of old)) (table m (listings_of new)) m who peer
-  updates_after k m who w found = updates_by (table k (listings_of old)) (table m (listings_of new)) m who (with_peer_at l peer) refl (finds_at who w found)
+  pub updates_after : (k m : ℕ) (last next : Option Ip6) (who : Ip6) → AreWhole old → key_of old who ≡ Some key
+      → KnowsThen (table_after k last (listings_of old)) (table_after m next (listings_of new)) m who peer
+  updates_after k m last next who w found = updates_by (table_after k last (listings_of old)) (table_after m next (listings_of new)) m who (with_peer_at l peer) refl (finds_at who w found)
 
   -- where it is due as before no key moves
   turn_due : entry_due (Some (with_peer_at l peer)) ≡ entry_due (Some l) → new.order ≡ old.order → AreWhole old → AreInTurn new.slab new.order.items
@@ -82,9 +83,9 @@ module _ {old new : Entries} {key : ℕ} {l : Listing} {peer : Peer} (a : IsAfte
   turn_still before was now order w = turn_due (sym (ap entry_due change.update.changed) ∙ now ∙ was ∙ ap entry_due a.was) order w
 
 -- what is known of an address that is listed, and has a key
-pub known_at : (e : Entries) (k n : ℕ) (who : Ip6) (key : ℕ) (l : Listing) → AreWhole e → key_of e who ≡ Some key → get e.slab key ≡ Some l
-    → is_some (peer_in (table k (listings_of e)) n who) ≡ true → known_to (table k (listings_of e)) n who ≡ l.peer
-known_at e k n who key l w found at listed = known_there (table k (listings_of e)) n who l (found_at e who key l w.names found at) listed
+pub known_at : (e : Entries) (k n : ℕ) (last : Option Ip6) (who : Ip6) (key : ℕ) (l : Listing) → AreWhole e → key_of e who ≡ Some key → get e.slab key ≡ Some l
+    → is_some (peer_in (table_after k last (listings_of e)) n who) ≡ true → known_to (table_after k last (listings_of e)) n who ≡ l.peer
+known_at e k n last who key l w found at listed = known_there (table_after k last (listings_of e)) n who l (found_at e who key l w.names found at) listed
 
 -- a peer that was touched then
 pub since_touched : (e : Entries) (m n : ℕ) (peer : Peer) → AreKept e m → m ≤ n → peer.touched ≡ Some n → IsSince e.touched.0 peer.touched

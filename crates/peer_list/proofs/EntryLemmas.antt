@@ -1,5 +1,5 @@
 -- Slab, index and order together: what an address finds, and what a change or an addition leaves.
-use Rattle.peer_list.proofs.Words.{AllByRecursion, AreDueButOnce, AreDueOnce, AreInOrder, AreInTurn, AreSound, BTreeMap, Bool, Entries, Equal, Greater, Ip6, IsOrdered, IsSince, IsSinceAll, IsStrictlySortedBy, Leads, Less, List, Listing, Millis, MutBor, NameEachOther, None, Option, Ordering, PEERS_MAX, RetainsPairs, Slab, Some, [], all_map, ap, arith, cases_eq, cmp_ip6, cmp_ip6_ties, cond, cons_option, count_by, entry_due, entry_for, entry_under, eq-eqb, eqb-false, eqb-true, false, false≢true, filter, find, get, get_or, inl, inr, insert_entry, is_at, is_eq, is_listed_at, is_of, is_some, keys_of, keys_without, length, listings_in, listings_of, lookup, match_ordering, nat_eq, not, refl, same_Some, same_ip6, same_ip6-self, same_ip6-true, subst, suc, sym, true, unwrap_or, zero, ℕ, ◌+◌, ◌∙◌, ◌∷◌, ◌≡◌, ◌≤◌}
+use Rattle.peer_list.proofs.Words.{AllByRecursion, AreDueButOnce, AreDueOnce, AreInOrder, AreInTurn, AreSound, BTreeMap, Bool, Entries, Equal, Greater, Ip6, IsOrdered, IsSince, IsSinceAll, IsStrictlySortedBy, Leads, Less, List, Listing, Millis, MutBor, NameEachOther, None, Option, Ordering, PEERS_MAX, RetainsPairs, Slab, Some, Updates, [], all_map, ap, arith, cases_eq, cmp_ip6, cmp_ip6_ties, cond, cons_option, count_by, entry_due, entry_for, entry_under, eq-eqb, eqb-false, eqb-true, false, false≢true, filter, find, get, get_or, inl, inr, insert_entry, is_at, is_eq, is_listed_at, is_of, is_some, keys_of, keys_without, length, listings_in, listings_of, lookup, match_ordering, nat_eq, not, refl, same_Some, same_ip6, same_ip6-self, same_ip6-true, subst, suc, sym, true, unwrap_or, zero, ℕ, ◌+◌, ◌∙◌, ◌∷◌, ◌≡◌, ◌≤◌}
 use Rattle.std.specs.BTreeMap as map
 use Rattle.slab.specs.Slab as slab
 use Rattle.peer_list.proofs.OrderLemmas.{count_kept, turn_passing}

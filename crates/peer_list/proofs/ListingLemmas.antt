@@ -1,5 +1,5 @@
 -- The listings of a table, one by one: what is taken out, and what a change of one makes of the table.
-use Rattle.peer_list.proofs.Words.{AllByRecursion, AreApart, Bool, Ip6, Keeps, LISTED_MS, List, Listing, None, Option, Peer, Some, Table, Updates, [], ap, arith, cond, false, false≢true, filter, find, get_or, is_listed_at, is_of, is_some, is_within, known_to, length, no_peer, option_map, peer_in, peer_listed, refl, same_ip6, same_ip6-true, suc, sym, table, true, unwrap_or, while_listed, zero, ℕ, ◌<◌, ◌∙◌, ◌∷◌, ◌≡◌, ◌≤◌}
+use Rattle.peer_list.proofs.Words.{AllByRecursion, AreApart, Bool, Ip6, KnowsStill, KnowsThen, LISTED_MS, List, Listing, None, Option, Peer, Some, Table, [], ap, arith, cond, false, false≢true, filter, find, get_or, is_listed_at, is_of, is_some, is_within, known_to, length, no_peer, option_map, peer_in, peer_listed, refl, same_ip6, same_ip6-true, suc, sym, table, true, unwrap_or, while_listed, zero, ℕ, ◌<◌, ◌∙◌, ◌∷◌, ◌≡◌, ◌≤◌}
 use Rattle.peer_list.proofs.TableLemmas.{within_after, listed_while}
 use Rattle.peer_list.proofs.Lists.{all_kept}
 
@@ -35,7 +35,7 @@ shorter test (l ∷ ls) = by_test (test l) (shorter test ls) where
   by_test false h = omega arith
 
 -- from m on the same is known
-pub purged : (m : ℕ) (ls : List Listing) → AreApart ls → Keeps (table m ls) (table m (filter (is_listed_at m) ls)) m
+pub purged : (m : ℕ) (ls : List Listing) → AreApart ls → KnowsStill (table m ls) (table m (filter (is_listed_at m) ls)) m
 unfolding peer_in
 purged m ls a = record { moment = refl; view = λ n p k. purged_at m n p ls k a }
 
@@ -88,7 +88,7 @@ known_there t n who l there listed =
 -- A CHANGE
 
 -- one address has another listing, or a first one, and each other has its own
-pub updates_by : (old new : Table) (m : ℕ) (who : Ip6) (l : Listing) → new.moment ≡ m → ((p : Ip6) → find (is_of p) new.listings ≡ cond (same_ip6 p who) (Some l) (find (is_of p) old.listings)) → Updates old new m who l.peer
+pub updates_by : (old new : Table) (m : ℕ) (who : Ip6) (l : Listing) → new.moment ≡ m → ((p : Ip6) → find (is_of p) new.listings ≡ cond (same_ip6 p who) (Some l) (find (is_of p) old.listings)) → KnowsThen old new m who l.peer
 unfolding peer_in
 updates_by old new m who l moment is = record {
   moment = moment;

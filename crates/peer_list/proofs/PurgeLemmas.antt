@@ -1,5 +1,5 @@
 -- A call that lists a peer, over entries p, which are those of e that are still listed.
-use Rattle.peer_list.proofs.Words.{Adds, AreKept, AreWhole, Entries, Ip6, IsAfter, Keeps, Listing, None, PEERS_MAX, Peer, Some, Updates, ap, entry_under, filter, find, get, has_room_in, is_listed_at, is_of, key_of, known_to, length, listings_of, nat_lt, no_peer, peer_in, subst, sym, table, unwrap_or, with_peer_at, ℕ, ◌∙◌, ◌≡◌}
+use Rattle.peer_list.proofs.Words.{Adds, AreKept, AreWhole, Entries, Ip6, IsAfter, KnowsStill, KnowsThen, Listing, None, PEERS_MAX, Peer, Some, ap, entry_under, filter, find, get, has_room_in, is_listed_at, is_of, key_of, known_to, length, listings_of, nat_lt, no_peer, peer_in, subst, sym, table, unwrap_or, with_peer_at, ℕ, ◌∙◌, ◌≡◌}
 use Rattle.peer_list.proofs.PlaceLemmas.{apart_of}
 use Rattle.peer_list.proofs.EntryLemmas.{finds, sound_of, length_of}
 use Rattle.peer_list.proofs.AdmitLemmas.{Purged, keeps_purged, keeps_same, was_there, was_nowhere, room_nowhere, updates_purged}
@@ -10,10 +10,10 @@ module _ {e p : Entries} {m : ℕ} (was : AreKept e m) (kept : AreKept p m) (is 
   purge : Purged m (listings_of e) (listings_of p)
   purge = record { apart = apart_of (sound_of e was.whole.names); is = is }
 
-  pub keeps : Keeps (table m (listings_of e)) (table m (listings_of p)) m
+  pub keeps : KnowsStill (table m (listings_of e)) (table m (listings_of p)) m
   keeps = keeps_purged m (listings_of e) (listings_of p) purge
 
-  pub keeps_all : (new : Entries) → listings_of new ≡ listings_of p → Keeps (table m (listings_of e)) (table m (listings_of new)) m
+  pub keeps_all : (new : Entries) → listings_of new ≡ listings_of p → KnowsStill (table m (listings_of e)) (table m (listings_of new)) m
   keeps_all new same = keeps_same m (listings_of e) (listings_of p) (listings_of new) purge same
 
   -- where an address has no key
@@ -30,9 +30,9 @@ module _ {e p : Entries} {m : ℕ} (was : AreKept e m) (kept : AreKept p m) (is 
   room_is who none = room_nowhere m (listings_of e) (listings_of p) who purge (nowhere who none) ∙ ap (λ n. nat_lt n PEERS_MAX) (length_of p kept.whole.names)
 
   pub updates_added : (new : Entries) (l : Listing) (call : Peer → Peer) → key_of p l.who ≡ None → AreWhole new → Adds p new l → l.peer ≡ call no_peer
-      → Updates (table m (listings_of e)) (table m (listings_of new)) m l.who (call (known_to (table m (listings_of e)) m l.who))
+      → KnowsThen (table m (listings_of e)) (table m (listings_of new)) m l.who (call (known_to (table m (listings_of e)) m l.who))
   updates_added new l call none w adds done =
-      subst (λ (x : Peer). Updates (table m (listings_of e)) (table m (listings_of new)) m l.who x) (done ∙ ap call (sym (unknown l.who none)))
+      subst (λ (x : Peer). KnowsThen (table m (listings_of e)) (table m (listings_of new)) m l.who x) (done ∙ ap call (sym (unknown l.who none)))
       (updates_purged m (listings_of e) (listings_of p) (listings_of new) l.who l purge (finds_added p new l kept.whole.names w.names adds))
 
   -- where it has one, and an entry under it
@@ -41,7 +41,7 @@ module _ {e p : Entries} {m : ℕ} (was : AreKept e m) (kept : AreKept p m) (is 
     known = was_there m (listings_of e) (listings_of p) who l purge (found_at p who key l kept.whole.names found at)
 
     pub updates_there : (new : Entries) (peer : Peer) (call : Peer → Peer) → IsAfter p new key l peer → peer ≡ call l.peer
-        → Updates (table m (listings_of e)) (table m (listings_of new)) m who (call (known_to (table m (listings_of e)) m who))
+        → KnowsThen (table m (listings_of e)) (table m (listings_of new)) m who (call (known_to (table m (listings_of e)) m who))
     updates_there new peer call a done =
-        subst (λ (x : Peer). Updates (table m (listings_of e)) (table m (listings_of new)) m who x) (done ∙ ap call (sym known))
+        subst (λ (x : Peer). KnowsThen (table m (listings_of e)) (table m (listings_of new)) m who x) (done ∙ ap call (sym known))
         (updates_purged m (listings_of e) (listings_of p) (listings_of new) who (with_peer_at l peer) purge (finds_at a who kept.whole found))

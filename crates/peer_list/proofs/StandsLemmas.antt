@@ -1,5 +1,5 @@
 -- What a table stands for, and what its calls add.
-use Rattle.peer_list.proofs.Words.{AreSame, Bool, CallsOfAnEntry, CountTheSame, IdleStands, Ip6, KeptStands, LISTED_MS, List, Listing, MeansNothing, Mention, NextStands, None, Option, PEERS_MAX, Peer, Some, StandsForMentions, Table, TableIsRead, [], about_nobody, after, ap, append-nil, arith, bears_nothing, cond, emptied, false, find, first_among, has_room, has_room_in, held_at, holding, is_about, is_listed, is_of, is_peer, is_some, is_within, is_younger, kept_among, kept_count, known_to, length, listed, listed_in, nat_lt, no_bearing, no_peer, option_map, peer_at, peer_if, peer_in, peer_listed, queued_at, refl, same_ip6, same_ip6-true, subst, sym, touched_at, tried_at, true, unwrap_or, view_after, while_listed, ℕ, ◌++◌, ◌||◌, ◌∙◌, ◌≡◌, ◌≤◌}
+use Rattle.peer_list.proofs.Words.{AreSame, Bearing, Bool, CallsOfAnEntry, CountTheSame, IdleStands, Ip6, KeptStands, LISTED_MS, List, Listing, MeansNothing, Mention, NextStands, None, Option, PEERS_MAX, Peer, Some, StandsForMentions, Table, TableIsRead, [], about_nobody, after, ap, append-nil, arith, bears_nothing, concerns_peer, cond, emptied, false, find, first_among, has_room, has_room_in, held_at, holding, is_about, is_listed, is_of, is_peer, is_some, is_within, is_younger, kept_among, kept_count, known_to, latest_peer, length, listed, listed_in, nat_lt, no_bearing, no_peer, option_map, option_or, peer_at, peer_if, peer_in, peer_listed, queued_at, refl, same_ip6, same_ip6-true, subst, sym, touched_at, tried_at, true, unwrap_or, view_after, while_listed, ℕ, ◌++◌, ◌||◌, ◌∙◌, ◌∷◌, ◌≡◌, ◌≤◌}
 use Rattle.peer_list.specs.Peers.{known}
 use Rattle.peer_list.proofs.Lists.{listed_are, listed_once}
 use Rattle.peer_list.proofs.Bearings.{one_entry, listed_is_known}
@@ -8,9 +8,9 @@ use Rattle.peer_list.proofs.HoldLemmas.{held_listed}
 use Rattle.peer_list.proofs.TableLemmas.{within_after, members, members_once}
 
 -- nobody is listed in an empty table
-pub empty_stands : (t : Table) → t.listings ≡ [] → StandsForMentions t []
+pub empty_stands : (t : Table) → t.listings ≡ [] → t.latest ≡ None → StandsForMentions t []
 unfolding peer_in peer_at is_listed
-empty_stands t none = record { view = λ n p l. rw none refl }
+empty_stands t none nobody = record { view = λ n p l. rw none refl; latest = nobody }
 
 -- WHAT IS READ
 
@@ -42,6 +42,7 @@ table_is_read t j n s l =
       first = ap (λ (f : Ip6 → Peer). option_map (λ p. record { who = p; peer = f p }) (first_among (known_to t n) (listed_in t n))) all
           ∙ ap (λ o. option_map (λ p. record { who = p; peer = known j n p }) o) count.first;
       sum = count.sum;
+      latest = s.latest;
     }
 
 -- WHAT IS ADDED
@@ -52,6 +53,7 @@ kept_stands old new m j s l k = record {
       let from : m ≤ n = subst (λ x. x ≤ n) k.moment h in
       let before : old.moment ≤ n = omega arith in
       k.view n p from ∙ s.view n p before;
+  latest = k.latest ∙ s.latest;
 }
 
 -- an entry that doesn't touch, where its peer is known so
@@ -92,7 +94,9 @@ seen_by e old n who false quiet l =
     ap (λ (g : Peer → Peer). while_listed n (g (known_to old e.moment who))) all ∙ quiet_by e e.moment n (find (is_of who) old.listings) l ∙ sym (ap (λ (g : Peer → Peer). option_map g (peer_in old n who)) all)
 
 pub next_stands : NextStands
-next_stands old new e j who s l about u = record {
+next_stands old new e j who s l about concerns u = record {
+  latest = u.latest
+      ∙ sym (ap (λ (b : Bool). option_or (cond b e.peer None) (latest_peer j)) concerns ∙ ap (λ (o : Option Ip6). option_or o (latest_peer j)) about);
   view = λ n p h.
       let from : e.moment ≤ n = subst (λ x. x ≤ n) u.moment h in
       let before : old.moment ≤ n = omega arith in
@@ -137,8 +141,19 @@ idle_view e j n p (bears_nothing none) =
     (peer_at j n p) ≡ peer_at j n p) (sym none) (idle_if (is_about p e) (is_younger LISTED_MS n e.moment) e.moment e.peer
     (peer_at j e.moment p) (peer_at j n p))
 
+nobody_if : (b : Bool) (o : Option Ip6) → option_or (cond b None None) o ≡ o
+nobody_if true o = refl
+nobody_if false o = refl
+
+idle_latest : (e : Mention) (j : List Mention) → MeansNothing e → latest_peer (e ∷ j) ≡ latest_peer j
+idle_latest e j (about_nobody none) = ap (λ (o : Option Ip6). option_or (cond (concerns_peer e.bearing) o None) (latest_peer j)) none ∙ nobody_if (concerns_peer e.bearing) (latest_peer j)
+idle_latest e j (bears_nothing none) = ap (λ (b : Bearing). option_or (cond (concerns_peer b) e.peer None) (latest_peer j)) none
+
 pub idle_stands : IdleStands
-idle_stands t e j s idle = record { view = λ n p l. s.view n p l ∙ sym (idle_view e j n p idle) ∙ sym (one_entry e j n p) }
+idle_stands t e j s idle = record {
+  view = λ n p l. s.view n p l ∙ sym (idle_view e j n p idle) ∙ sym (one_entry e j n p);
+  latest = s.latest ∙ sym (idle_latest e j idle);
+}
 
 -- THE CALLS OF AN ENTRY
 

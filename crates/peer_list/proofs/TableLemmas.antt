@@ -1,5 +1,5 @@
 -- What a table says of an address, and how its listings say it.
-use Rattle.peer_list.proofs.Words.{Bool, FoundIsListed, Ip6, IsDistinct, Keeps, LISTED_MS, List, Listing, None, Option, Peer, Some, Table, TouchGoesOn, TouchedIsListed, UpdateIsSeen, Updates, UpdatesTwice, [], addresses, any-filter_same, ap, arith, cond, cond_some, false, false≢true, find, first_due_in, has_room_in, is_of, is_some, is_within, is_younger, known_to, length, list_any, listed_in, lt-ltb, ltb-true, no_peer, peer_in, peer_listed, refl, same_ip6, same_ip6-self, same_ip6-true, sym, table, true, unwrap_or, waiting_in, while_listed, with_peer, ℕ, ◌-◌, ◌<◌, ◌∙◌, ◌∷◌, ◌≡◌, ◌≤◌}
+use Rattle.peer_list.proofs.Words.{Bool, Err, FoundIsListed, Ip6, IsDistinct, Keeps, KnowsStill, KnowsThen, LISTED_MS, List, Listing, None, Ok, OnErr, OnOk, Option, Peer, Result, Some, Table, TouchGoesOn, TouchedIsListed, UpdateIsSeen, Updates, UpdatesTwice, [], addresses, any-filter_same, ap, arith, cond, cond_some, false, false≢true, find, first_due_in, has_room_in, is_of, is_some, is_within, is_younger, known_to, length, list_any, listed_in, lt-ltb, ltb-true, no_peer, peer_in, peer_listed, refl, same_ip6, same_ip6-self, same_ip6-true, sym, table, table_after, true, unwrap_or, waiting_in, while_listed, with_peer, ℕ, ◌-◌, ◌<◌, ◌∙◌, ◌∷◌, ◌≡◌, ◌≤◌}
 use Rattle.peer_list.proofs.Lists.{still, now_too, once_with, once_kept, narrowed}
 
 -- TIME
@@ -54,6 +54,7 @@ twice_by false x y z = refl
 pub updates_twice : UpdatesTwice
 updates_twice a b c m who first next l u v = record {
   moment = v.moment;
+  latest = v.latest;
   view = λ n p k.
       let known : known_to b m who ≡ first = (update_is_seen a b m who first l u).1 in
       v.view n p k
@@ -97,33 +98,39 @@ pub members_once : (t : Table) (n : ℕ) → IsDistinct same_ip6 (listed_in t n)
 unfolding listed_in
 members_once t n = once_kept (λ p. is_some (peer_in t n p)) (addresses t.listings) (addresses_once t.listings)
 
--- WHAT DOESN'T DEPEND ON A TABLE'S MOMENT
+-- WHAT DEPENDS ON NO MOMENT OF A TABLE, AND NOT ON WHOM THE LATEST CALL CHANGED
 
-pub other_peer : (m k n : ℕ) (p : Ip6) (ls : List Listing) → peer_in (table m ls) n p ≡ peer_in (table k ls) n p
+pub other_peer : (m k : ℕ) (last : Option Ip6) (n : ℕ) (p : Ip6) (ls : List Listing) → peer_in (table m ls) n p ≡ peer_in (table_after k last ls) n p
 unfolding peer_in
-other_peer m k n p ls = refl
+other_peer m k last n p ls = refl
 
-pub other_room : (m k n : ℕ) (p : Ip6) (ls : List Listing) → has_room_in (table m ls) n p ≡ has_room_in (table k ls) n p
+pub other_room : (m k : ℕ) (last : Option Ip6) (n : ℕ) (p : Ip6) (ls : List Listing) → has_room_in (table m ls) n p ≡ has_room_in (table_after k last ls) n p
 unfolding has_room_in listed_in peer_in
-other_room m k n p ls = refl
+other_room m k last n p ls = refl
 
-pub other_count : (m k n : ℕ) (ls : List Listing) → length (listed_in (table m ls) n) ≡ length (listed_in (table k ls) n)
+pub other_count : (m k : ℕ) (last : Option Ip6) (n : ℕ) (ls : List Listing) → length (listed_in (table m ls) n) ≡ length (listed_in (table_after k last ls) n)
 unfolding listed_in peer_in
-other_count m k n ls = refl
+other_count m k last n ls = refl
 
-pub other_waiting : (m k n : ℕ) (ls : List Listing) → waiting_in (table m ls) n ≡ waiting_in (table k ls) n
+pub other_waiting : (m k : ℕ) (last : Option Ip6) (n : ℕ) (ls : List Listing) → waiting_in (table m ls) n ≡ waiting_in (table_after k last ls) n
 unfolding listed_in peer_in
-other_waiting m k n ls = refl
+other_waiting m k last n ls = refl
 
-pub other_first : (m k n : ℕ) (ls : List Listing) → first_due_in (table m ls) n ≡ first_due_in (table k ls) n
+pub other_first : (m k : ℕ) (last : Option Ip6) (n : ℕ) (ls : List Listing) → first_due_in (table m ls) n ≡ first_due_in (table_after k last ls) n
 unfolding listed_in peer_in
-other_first m k n ls = refl
+other_first m k last n ls = refl
 
-pub other_keeps : (m k n : ℕ) (ls : List Listing) (new : Table) → Keeps (table m ls) new n → Keeps (table k ls) new n
-unfolding peer_in
-other_keeps m k n ls new h = record { moment = h.moment; view = h.view }
+-- A CALL THAT MAY BE REFUSED
 
-pub other_updates : (m k n : ℕ) (ls : List Listing) (new : Table) (who : Ip6) (f : Peer → Peer)
-    → Updates (table m ls) new n who (f (known_to (table m ls) n who)) → Updates (table k ls) new n who (f (known_to (table k ls) n who))
-unfolding peer_in
-other_updates m k n ls new who f h = record { moment = h.moment; view = h.view }
+-- between two tables at m, the first of which was one at k, with these listings
+module _ {A E : Type 0} (m k : ℕ) (last next : Option Ip6) (ls more : List Listing) where
+  pub other_keeps : (r : Result A E) → OnErr r (KnowsStill (table m ls) (table m more) m) → OnErr r (next ≡ last) → OnErr r (Keeps (table_after k last ls) (table_after m next more) m)
+  unfolding peer_in
+  other_keeps (Ok done) h same = tt
+  other_keeps (Err e) h same = record { moment = h.moment; view = h.view; latest = same }
+
+  pub other_updates : (who : Ip6) (f : Peer → Peer) (r : Result A E) → OnOk r (KnowsThen (table m ls) (table m more) m who (f (known_to (table m ls) m who))) → OnOk r (next ≡ Some who)
+      → OnOk r (Updates (table_after k last ls) (table_after m next more) m who (f (known_to (table_after k last ls) m who)))
+  unfolding peer_in
+  other_updates who f (Ok done) h is = record { moment = h.moment; view = h.view; latest = is }
+  other_updates who f (Err e) h is = tt

@@ -1,5 +1,5 @@
 -- A listed peer is still listed when it is due: each call keeps that, and so whoever is due first waits then.
-use Rattle.peer_list.proofs.Words.{AreTimely, Bool, Change, Ep, Err, FirstLasts, GiveUp, Hear, Ip6, IsTimely, Keeps, LISTED_MS, List, Listing, Millis, None, Ok, OnErr, OnOk, Option, Peer, Result, Some, TRY_GAP_MS, Table, Touch, Trust, TrustAndHear, Try, Updates, [], ap, arith, changed_at, cond, due_and_who, due_of, emptied, false, false≢true, find, first_due_in, heard_at, held_at, is_none, is_of, is_some, is_within, known_to, lt-ltb, ltb-true, max, no_peer, option_map, option_or, peer_in, peer_listed, queued_at, refl, same_ip6, subst, sym, table, touched_at, tried_at, true, trusted_at, unwrap_or, while_listed, ℕ, ◌+◌, ◌∙◌, ◌≡◌, ◌≤◌}
+use Rattle.peer_list.proofs.Words.{AreTimely, Bool, Change, Ep, Err, FirstLasts, GiveUp, Hear, Ip6, IsTimely, KnowsStill, KnowsThen, LISTED_MS, List, Listing, Millis, None, Ok, OnErr, OnOk, Option, Peer, Result, Some, TRY_GAP_MS, Table, Touch, Trust, TrustAndHear, Try, [], ap, arith, changed_at, cond, due_and_who, due_of, emptied, false, false≢true, find, first_due_in, heard_at, held_at, is_none, is_of, is_some, is_within, known_to, lt-ltb, ltb-true, max, no_peer, option_map, option_or, peer_in, peer_listed, queued_at, refl, same_ip6, subst, sym, table, table_after, touched_at, tried_at, true, trusted_at, unwrap_or, while_listed, ℕ, ◌+◌, ◌∙◌, ◌≡◌, ◌≤◌}
 use Rattle.peer_list.proofs.TableLemmas.{listed_while, within_of, found_is_listed, other_peer}
 use Rattle.peer_list.proofs.OverdueLemmas.{later_same, first_overdue, overdue_of}
 
@@ -85,20 +85,20 @@ listed_is n one peer h = by_test (is_within LISTED_MS n one.touched) h where
   by_test true k = ap (λ (o : Option Peer). unwrap_or o one) k
   by_test false k = absurd (false≢true (ap is_some k))
 
-pub timely_updated : (old new : Table) (n : ℕ) (who : Ip6) (one : Peer) → AreTimely old → old.moment ≤ n → IsTimely n one → Updates old new n who one → AreTimely new
+pub timely_updated : (old new : Table) (n : ℕ) (who : Ip6) (one : Peer) → AreTimely old → old.moment ≤ n → IsTimely n one → KnowsThen old new n who one → AreTimely new
 timely_updated old new n who one all later so u p peer h =
     subst (λ (m : ℕ). IsTimely m peer) (sym u.moment) (by_test (same_ip6 p who) (sym (u.view n p (omega arith)) ∙ ap (λ (m : ℕ). peer_in new m p) (sym u.moment) ∙ h)) where
       by_test : (b : Bool) → cond b (while_listed n one) (peer_in old n p) ≡ Some peer → IsTimely n peer
       by_test true k = subst (IsTimely n) (listed_is n one peer k) so
       by_test false k = subst (λ (o : Option Peer). IsTimely n (unwrap_or o no_peer)) k (found old n p all later (ap is_some k))
 
-pub timely_kept : (old new : Table) (n : ℕ) → AreTimely old → old.moment ≤ n → Keeps old new n → AreTimely new
+pub timely_kept : (old new : Table) (n : ℕ) → AreTimely old → old.moment ≤ n → KnowsStill old new n → AreTimely new
 timely_kept old new n all later k p peer h =
     let before : peer_in old n p ≡ Some peer = sym (k.view n p (omega arith)) ∙ ap (λ (m : ℕ). peer_in new m p) (sym k.moment) ∙ h in
     subst (λ (m : ℕ). IsTimely m peer) (sym k.moment) (subst (λ (o : Option Peer). IsTimely n (unwrap_or o no_peer)) before (found old n p all later (ap is_some before)))
 
 pub timely_answered : {A : Type 0} {E : Type 0} (old new : Table) (n : ℕ) (who : Ip6) (one : Peer) (r : Result A E) → AreTimely old
-    → old.moment ≤ n → IsTimely n one → OnOk r (Updates old new n who one) → OnErr r (Keeps old new n) → AreTimely new
+    → old.moment ≤ n → IsTimely n one → OnOk r (KnowsThen old new n who one) → OnErr r (KnowsStill old new n) → AreTimely new
 timely_answered old new n who one (Ok _) all later so u k = timely_updated old new n who one all later so u
 timely_answered old new n who one (Err _) all later so u k = timely_kept old new n all later k
 
@@ -106,10 +106,15 @@ pub timely_empty : (t : Table) → t.listings ≡ [] → AreTimely t
 unfolding peer_in
 timely_empty t none p peer h = absurd (false≢true (ap is_some (sym (ap (λ (ls : List Listing). peer_listed t.moment (find (is_of p) ls)) none) ∙ h)))
 
+-- whomever the latest call changed
+pub timely_after : (k : ℕ) (last : Option Ip6) (ls : List Listing) → AreTimely (table k ls) → AreTimely (table_after k last ls)
+unfolding peer_in
+timely_after k last ls all p peer h = all p peer h
+
 -- time alone
 pub timely_later : (k n : ℕ) (ls : List Listing) → k ≤ n → AreTimely (table k ls) → AreTimely (table n ls)
 timely_later k n ls later all p peer h =
-    let before : peer_in (table k ls) n p ≡ Some peer = other_peer k n n p ls ∙ h in
+    let before : peer_in (table k ls) n p ≡ Some peer = other_peer k n None n p ls ∙ h in
     subst (λ (o : Option Peer). IsTimely n (unwrap_or o no_peer)) before (found (table k ls) n p all later (ap is_some before))
 
 -- WHO IS DUE FIRST

@@ -39,7 +39,7 @@ pub use Rattle.td_base.specs.declared.millis.TheConstants.{CLOCK_END_MS}
 pub use Rattle.teredo_node.specs.Due.{IsFirstDue}
 pub use Rattle.teredo_node.specs.Sends.{releases}
 pub use Rattle.peer_list.specs.Bounds.{AreEarly}
-pub use Rattle.peer_list.specs.Calls.{Keeps, Updates, changed_at, emptied, heard_at, held_at, holding, queued_at, touched_at, tried_at, trusted_at}
+pub use Rattle.peer_list.specs.Calls.{Keeps, KnowsStill, KnowsThen, Updates, changed_at, emptied, heard_at, held_at, holding, queued_at, touched_at, tried_at, trusted_at}
 pub use Rattle.peer_list.specs.Entries.{Adds, AreDueButOnce, AreDueOnce, AreInTurn, AreKept, AreWhole, AreWholeBut, IsAfter, IsFirstOf, IsPlaceFor, IsSinceAll, Leads, NameEachOther, SameEntries, entry_due, entry_for, entry_under, is_sooner, key_of, keys_without, listings_in, listings_of, with_peer_at}
 pub use Rattle.peer_list.specs.Few.{FewListed, FindsRoom}
 pub use Rattle.peer_list.specs.Judged.{held_elsewhere, held_from, is_none, is_within, young_tries}
@@ -47,14 +47,14 @@ unfoldable pub use Rattle.peer_list.specs.Judged.{due_of, holds_most, is_barred,
 pub use Rattle.peer_list.specs.Laws.{AreSame, CountTheSame, FirstIsEarliest, FirstWaits, InOrder, IsFirstBy, IsTried, IsWaiting, Lasts, ListedAre, ListedIsKnown, ListedOnce, OfATouch, OfAnother, OfNoTouch, OneEntry, OrderIsFree, TriesWithoutStay, Unlisted, after, peer_if, plain_tries, tries_after, view_after}
 pub use Rattle.peer_list.specs.Listed.{is_recent_touch, is_younger, stay_with, touched_by, with_peer}
 unfoldable pub use Rattle.peer_list.specs.Listed.{has_room, is_listed, listed, stay, touched}
-pub use Rattle.peer_list.specs.Mentions.{Mention, is_about, is_peer, is_touch_of, no_bearing}
+pub use Rattle.peer_list.specs.Mentions.{Bearing, Mention, concerns_peer, is_about, is_peer, is_touch_of, latest_peer, no_bearing}
 pub use Rattle.peer_list.specs.Overdue.{FirstOverdue, IsFirstOverdue, IsKeptDue, IsNoSooner, IsOverdue, IsPutOff, LessOverdue, NothingOverdue, due_moment, listing_at, while_due}
 unfoldable pub use Rattle.peer_list.specs.Overdue.{overdue_in}
 pub use Rattle.peer_list.specs.Peers.{Peer, all_tries, latest_given, no_peer, peer_of, since}
 unfoldable pub use Rattle.peer_list.specs.Peers.{peer_at}
 pub use Rattle.peer_list.specs.Sound.{AreApart, AreInOrder, AreSound, IsNotBefore, IsSince, NoneBefore, is_before}
 pub use Rattle.peer_list.specs.Stands.{CallsOfAnEntry, FoundIsListed, HoldGoesOn, IdleStands, KeptStands, MeansNothing, NextStands, StandsForMentions, TableIsRead, TouchGoesOn, TouchedIsListed, UpdateIsSeen, UpdatesTwice, about_nobody, bears_nothing}
-pub use Rattle.peer_list.specs.Table.{Table, addresses, due_and_who, earlier_due, first_due_in, is_listed_at, is_of, known_to, peer_listed, table, waiting_in, while_listed}
+pub use Rattle.peer_list.specs.Table.{Table, addresses, due_and_who, earlier_due, first_due_in, is_listed_at, is_of, known_to, peer_listed, table, table_after, waiting_in, while_listed}
 unfoldable pub use Rattle.peer_list.specs.Table.{has_room_in, listed_in, peer_in}
 pub use Rattle.peer_list.specs.Timely.{AreTimely, FirstLasts, IsKeptTimely, IsTimely}
 pub use Rattle.peer_list.specs.Waiting.{Listing, first_of_two, kept_count, least_by_due}

@@ -62,14 +62,26 @@ IsInTime m _ = Unit {0}
 -- THE TABLE AFTER A CALL
 
 -- from m on this is known of `who`, as long as it is listed, and of all others what was known before
-pub record Updates (old new : Table) (m : ℕ) (who : Ip6) (peer : Peer) : Type 0 where
+pub record KnowsThen (old new : Table) (m : ℕ) (who : Ip6) (peer : Peer) : Type 0 where
   pub moment : new.moment ≡ m
   pub view : (n : ℕ) (p : Ip6) → m ≤ n → peer_in new n p ≡ (if same_ip6 p who then while_listed n peer else peer_in old n p)
 
 -- from m on the same is known of each address
+pub record KnowsStill (old new : Table) (m : ℕ) : Type 0 where
+  pub moment : new.moment ≡ m
+  pub view : (n : ℕ) (p : Ip6) → m ≤ n → peer_in new n p ≡ peer_in old n p
+
+-- the same as in `KnowsThen`, and `who` is whom the latest call changed
+pub record Updates (old new : Table) (m : ℕ) (who : Ip6) (peer : Peer) : Type 0 where
+  pub moment : new.moment ≡ m
+  pub view : (n : ℕ) (p : Ip6) → m ≤ n → peer_in new n p ≡ (if same_ip6 p who then while_listed n peer else peer_in old n p)
+  pub latest : new.latest ≡ Some who
+
+-- the same as in `KnowsStill`, and the latest call that changed a peer is the one of before
 pub record Keeps (old new : Table) (m : ℕ) : Type 0 where
   pub moment : new.moment ≡ m
   pub view : (n : ℕ) (p : Ip6) → m ≤ n → peer_in new n p ≡ peer_in old n p
+  pub latest : new.latest ≡ old.latest
 
 -- a peer was tried with the nonce of a test, unless it is barred
 abbrev pub TriesUnless : (barred : Bool) → Table → ℕ → Ip6 → Option ℕ → Table → Type 0

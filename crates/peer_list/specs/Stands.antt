@@ -2,7 +2,7 @@
 use Rattle.std.specs.Prelude.{◌≡◌, ◌≤◌, ℕ, true, List, [], ◌∷◌, length, sum_by, Option, Some, None, is_some}
 use Rattle.td_base.specs.declared.ipv6.Ip6.{Ip6}
 use Rattle.td_base.specs.declared.endpoint.Ep.{Ep}
-use Rattle.peer_list.specs.Mentions.{no_bearing, touching, Mention}
+use Rattle.peer_list.specs.Mentions.{no_bearing, touching, Mention, concerns_peer, latest_peer}
 use Rattle.peer_list.specs.Listed.{listed, has_room}
 use Rattle.peer_list.specs.Peers.{Peer, peer_at, known}
 use Rattle.peer_list.specs.Waiting.{waiting_count, first_due}
@@ -10,9 +10,10 @@ use Rattle.peer_list.specs.Laws.{after}
 use Rattle.peer_list.specs.Table.{Table, while_listed, peer_in, known_to, listed_in, has_room_in, waiting_in, first_due_in}
 use Rattle.peer_list.specs.Calls.{touched_at, trusted_at, heard_at, tried_at, queued_at, held_at, emptied, Updates, Keeps}
 
--- from its moment on a table knows of each address what the mentions say
+-- from its moment on a table knows of each address what the mentions say, and whom the latest of them concerns
 pub record StandsForMentions (t : Table) (j : List Mention) : Type 0 where
   pub view : (n : ℕ) (p : Ip6) → t.moment ≤ n → peer_in t n p ≡ peer_at j n p
+  pub latest : t.latest ≡ latest_peer j
 
 -- WHAT IS READ
 
@@ -25,6 +26,7 @@ pub record SaysTheSame (t : Table) (j : List Mention) (n : ℕ) : Type 0 where
   pub room : (p : Ip6) → has_room_in t n p ≡ has_room j n p
   pub waiting : waiting_in t n ≡ waiting_count j n
   pub first : first_due_in t n ≡ first_due j n
+  pub latest : t.latest ≡ latest_peer j
 
 -- whatever is asked of a table is what its mentions say
 abbrev pub TableIsRead : Type 0
@@ -35,7 +37,7 @@ TableIsRead = (t : Table) (j : List Mention) (n : ℕ) → StandsForMentions t j
 -- a table in which an entry's peer is what comes after that entry stands for the further entry
 abbrev pub NextStands : Type 0
 NextStands = (old new : Table) (e : Mention) (j : List Mention) (who : Ip6)
-    → StandsForMentions old j → old.moment ≤ e.moment → e.peer ≡ Some who
+    → StandsForMentions old j → old.moment ≤ e.moment → e.peer ≡ Some who → concerns_peer e.bearing ≡ true
     → Updates old new e.moment who (after e (known_to old e.moment who)) → StandsForMentions new (e ∷ j)
 
 -- an entry that is about no peer, or means nothing for it

@@ -16,10 +16,15 @@ use Rattle.peer_list.specs.Waiting.{Listing, kept_among, first_among}
 pub record Table : Type 0 where
   pub moment : ℕ
   pub listings : List Listing
+  pub latest : Option Ip6  -- whom the latest call changed
 
--- the table at a moment, with these listings
+-- the table at a moment, with these listings, after a call that changed what is known of this peer
+abbrev pub table_after : ℕ → Option Ip6 → List Listing → Table
+table_after m who ls = record { moment = m; listings = ls; latest = who }
+
+-- the table at a moment, with these listings, after no call
 abbrev pub table : ℕ → List Listing → Table
-table m ls = record { moment = m; listings = ls }
+table m ls = table_after m None ls
 
 -- nobody is listed
 abbrev pub empty_table : Table

@@ -1,5 +1,5 @@
 //! What is done with the peers that a node keeps.
-ghost use Rattle.std.specs.Prelude.{◌≡◌, ◌≤◌, ◌<◌, [], true, false, length, is_some, OnOk, OnErr};
+ghost use Rattle.std.specs.Prelude.{◌≡◌, ◌≤◌, ◌<◌, [], true, false, length, Some, is_some, OnOk, OnErr};
 ghost use Rattle.ipv6_packet.specs.declared.header.TheConstants.{PACKET_MAX};
 ghost use Rattle.td_base.specs.declared.millis.TheConstants.{CLOCK_END_MS};
 ghost use Rattle.teredo_node.specs.Sends.{releases};
@@ -14,6 +14,21 @@ use crate::listings;
 use crate::table::Peers;
 use td_base::{Ep, Ip6, Millis, NoMemory};
 use teredo_node::Step;
+
+/// Notes the peer of a call that wasn't refused.
+fn note(latest: &mut Option<Ip6>, who: Ip6, done: Result<(), NoMemory>) -> Result<(), NoMemory>
+    ensures same { result ≡ done }
+    ensures noted { OnOk done (latest.new ≡ Some who) }
+    ensures kept { OnErr done (latest.new ≡ latest.old) }
+{
+    match done {
+        Ok(()) => {
+            *latest = Some(who);
+            Ok(())
+        }
+        Err(fault) => Err(fault),
+    }
+}
 
 impl Peers {
     /// Lists and touches a peer for which there is room. A refusal leaves all as it was.
@@ -32,7 +47,8 @@ impl Peers {
         ensures unlisted { OnErr result (is_some (peer_in self.old now.0 who) ≡ false) }
     {
         self.moment = now;
-        listings::list(&mut self.entries, self.alloc, now, who)
+        let listed = listings::list(&mut self.entries, self.alloc, now, who);
+        note(&mut self.latest, who, listed)
     }
 
     /// Lets a packet wait for a peer that has room for it, which it lists and touches. A refusal leaves all as it was.
@@ -49,7 +65,8 @@ impl Peers {
         ensures kept { OnErr result (Keeps self.old self.new now.0) }
     {
         self.moment = now;
-        listings::wait(&mut self.entries, self.alloc, now, who, packet)
+        let queued = listings::wait(&mut self.entries, self.alloc, now, who, packet);
+        note(&mut self.latest, who, queued)
     }
 
     /// Holds a packet that came from an endpoint, of a peer that has room for it: where it isn't listed it is listed and
@@ -68,7 +85,8 @@ impl Peers {
         ensures kept { OnErr result (Keeps self.old self.new now.0) }
     {
         self.moment = now;
-        listings::hold(&mut self.entries, self.alloc, now, who, from, packet)
+        let held = listings::hold(&mut self.entries, self.alloc, now, who, from, packet);
+        note(&mut self.latest, who, held)
     }
 
     /// Changes what is known of a listed peer, and nothing of any other.
@@ -79,6 +97,7 @@ impl Peers {
         ensures { Updates self.old self.new now.0 who (changed_at now.0 change (known_to self.old now.0 who)) }
     {
         self.moment = now;
+        self.latest = Some(who);
         let key = self.entries.key(who);
         self.entries.change(key, now, change);
     }
@@ -96,6 +115,7 @@ impl Peers {
         let peer = self.entries.peer_under(key, who);
         peer.send_waiting(to, step);
         self.moment = now;
+        self.latest = Some(who);
         self.entries.change(key, now, change);
     }
 
@@ -189,6 +209,7 @@ impl Peers {
         ensures stands { StandsForMentions self.new [] }
     {
         self.moment = Millis(0);
+        self.latest = None;
         self.entries.clear();
     }
 }

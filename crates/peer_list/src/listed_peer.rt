@@ -230,14 +230,16 @@ impl Peer {
     }
 
     /// How many packets wait for it.
-    pub(crate) fn waiting_count(&self) -> u8
+    pub fn waiting_count(&self) -> u8
+        /// See `Peer::is_fresh`.
         ensures { result ≡ length self.now.waiting }
     {
         self.waiting.len() as u8
     }
 
     /// How many packets from it are held.
-    pub(crate) fn held_count(&self) -> u8
+    pub fn held_count(&self) -> u8
+        /// See `Peer::is_fresh`.
         ensures { result ≡ length self.now.held }
     {
         self.held.len() as u8

@@ -3,7 +3,7 @@ ghost use Rattle.std.specs.Prelude.{◌≡◌, ◌≤◌, true, false, length, S
 ghost use Rattle.ipv6_packet.specs.declared.header.TheConstants.{PACKET_MAX};
 ghost use Rattle.peer_list.specs.Judged.{is_full, holds_most};
 ghost use Rattle.peer_list.specs.Table.{table, peer_in, known_to, has_room_in};
-ghost use Rattle.peer_list.specs.Calls.{touched_at, queued_at, holding, held_at, Updates, Keeps};
+ghost use Rattle.peer_list.specs.Calls.{touched_at, queued_at, holding, held_at, KnowsThen, KnowsStill};
 ghost use Rattle.slab.specs.Slab.{get, ContainsKey};
 ghost use Rattle.peer_list.specs.Waiting.{Listing as Kept};
 ghost use Rattle.peer_list.specs.Entries.{listings_of, AreKept, IsAfter};
@@ -27,8 +27,8 @@ pub fn list(entries: &mut Entries, alloc: Global, now: Millis, who: Ip6) -> Resu
     requires room { has_room_in (table now.0 (listings_of entries.old)) now.0 who ≡ true }
     ensures kept { AreKept entries.new now.0 }
     ensures listed { let old = table now.0 (listings_of entries.old) in
-        OnOk result (Updates old (table now.0 (listings_of entries.new)) now.0 who (touched_at now.0 (known_to old now.0 who))) }
-    ensures same { OnErr result (Keeps (table now.0 (listings_of entries.old)) (table now.0 (listings_of entries.new)) now.0) }
+        OnOk result (KnowsThen old (table now.0 (listings_of entries.new)) now.0 who (touched_at now.0 (known_to old now.0 who))) }
+    ensures same { OnErr result (KnowsStill (table now.0 (listings_of entries.old)) (table now.0 (listings_of entries.new)) now.0) }
     ensures unlisted { OnErr result (is_some (peer_in (table now.0 (listings_of entries.old)) now.0 who) ≡ false) }
 {
     entries.purge(now);
@@ -80,8 +80,8 @@ pub fn wait(
     requires short { length packet.now ≤ PACKET_MAX }
     ensures kept { AreKept entries.new now.0 }
     ensures queued { let old = table now.0 (listings_of entries.old) in
-        OnOk result (Updates old (table now.0 (listings_of entries.new)) now.0 who (queued_at now.0 packet.now (known_to old now.0 who))) }
-    ensures same { OnErr result (Keeps (table now.0 (listings_of entries.old)) (table now.0 (listings_of entries.new)) now.0) }
+        OnOk result (KnowsThen old (table now.0 (listings_of entries.new)) now.0 who (queued_at now.0 packet.now (known_to old now.0 who))) }
+    ensures same { OnErr result (KnowsStill (table now.0 (listings_of entries.old)) (table now.0 (listings_of entries.new)) now.0) }
 {
     entries.purge(now);
     match entries.find_key(who) {
@@ -132,8 +132,8 @@ pub fn hold(
     requires short { length packet.now ≤ PACKET_MAX }
     ensures kept { AreKept entries.new now.0 }
     ensures held { let old = table now.0 (listings_of entries.old) in
-        OnOk result (Updates old (table now.0 (listings_of entries.new)) now.0 who (held_at now.0 from packet.now (known_to old now.0 who))) }
-    ensures same { OnErr result (Keeps (table now.0 (listings_of entries.old)) (table now.0 (listings_of entries.new)) now.0) }
+        OnOk result (KnowsThen old (table now.0 (listings_of entries.new)) now.0 who (held_at now.0 from packet.now (known_to old now.0 who))) }
+    ensures same { OnErr result (KnowsStill (table now.0 (listings_of entries.old)) (table now.0 (listings_of entries.new)) now.0) }
 {
     entries.purge(now);
     match entries.find_key(who) {

@@ -20,11 +20,16 @@ use teredo_node::Step;
 pub struct Peers {
     pub(crate) alloc: Global,
     pub(crate) moment: Millis,
+    /// Whom the latest call changed.
+    pub(crate) latest: Option<Ip6>,
     pub(crate) entries: Entries,
 }
 
 // No clause sees a field that nothing reads: so they are their parts, and no byte more.
-const _: () = prove_eq!(size_of::<Peers>(), size_of::<(Global, Millis, Entries)>());
+const _: () = prove_eq!(
+    size_of::<Peers>(),
+    size_of::<(Global, Millis, Option<Ip6>, Entries)>()
+);
 
 impl Model for Peers {
     ghost use Rattle.peer_list.specs.Table.{Table};
@@ -33,7 +38,7 @@ impl Model for Peers {
 
     ghost Value = { Table };
 
-    ghost view = { λ s. record { moment = s.moment.0; listings = listings_of s.entries } };
+    ghost view = { λ s. record { moment = s.moment.0; listings = listings_of s.entries; latest = s.latest } };
 
     ghost invariant = { λ s. IsKeptTimely s.entries s.moment.0 };
 }
@@ -49,6 +54,7 @@ impl Peers {
         Peers {
             alloc,
             moment: Millis(0),
+            latest: None,
             entries: Entries::new(alloc),
         }
     }
@@ -208,6 +214,16 @@ impl Peers {
         ensures { result ≡ (known_to self.now now.0 who).nonce }
     {
         self.find(now, who)?.nonce()
+    }
+
+    /// Whom the latest call changed: listed, touched, held a packet of, or gave up.
+    pub fn latest(&self) -> Option<Ip6>
+        /// `latest` is the peer of the latest call that changed what is known of one: of the latest mention that concerns a
+        /// peer, for each list of mentions that the table stands for (`StandsForMentions`).
+        /// Leaves open: whether that peer is still listed.
+        ensures { result ≡ self.now.latest }
+    {
+        self.latest
     }
 
     /// How many addresses are listed.

@@ -1,5 +1,5 @@
 -- What is done with a payload by one line.
-use Rattle.relay_core.proofs.Words.{Ep, Fate, IsPayloadOf, IsQuiet, List, Peer, Relay, RelayDropsDatagram, RelayTakesPayload, Some, Span, Step, Updates, Value, after, ap, arith, bears_nothing, calls_of_an_entry, embedded, heard_at, just, known_to, le_refl, length, refl, relay_entry_about, relay_mention, relay_reception_step, relay_standing_in, releases, rest_of, sending, subst, sym, trusted_at, ℕ, ◌+◌, ◌-◌, ◌≡◌, ◌≤◌}
+use Rattle.relay_core.proofs.Words.{Ep, Fate, IsPayloadOf, IsQuiet, List, Peer, Relay, RelayDropsDatagram, RelayTakesPayload, Some, Span, Step, Updates, Value, after, ap, arith, bears_nothing, calls_of_an_entry, concerns_peer, embedded, heard_at, just, known_to, le_refl, length, refl, relay_entry_about, relay_mention, relay_reception_step, relay_standing_in, releases, rest_of, sending, subst, sym, true, trusted_at, ℕ, ◌+◌, ◌-◌, ◌≡◌, ◌≤◌}
 use Rattle.teredo_node.specs.declared.fate.Fate.TheVariants as fate
 use Rattle.relay_core.proofs.Entered.{RelayOnlyPeers, bears_stands, none_stands}
 
@@ -25,6 +25,7 @@ record HearsBy (old : Relay) (n : ℕ) (from : Ep) (v : Value) (f : Fate) (new :
   pub step : Step
   pub hears : Hears old n v new
   pub means : (x : List ℕ) → after (relay_mention (relay_entry_about n from x v.packet.src step)) (known_to old.peers n v.packet.src) ≡ heard old n v
+  pub concerns : (x : List ℕ) → concerns_peer (relay_mention (relay_entry_about n from x v.packet.src step)).bearing ≡ true
   pub did : (x : List ℕ) → IsPayloadOf x v → step ≡ relay_reception_step (relay_standing_in old n v.packet.src) x v f
 
 heard_by : (old new : Relay) (n : ℕ) (from : Ep) (v : Value) (f : Fate) (a : HearsBy old n from v f new)
@@ -33,6 +34,7 @@ heard_by old new n from v f a = record {
   did = a.did;
   stands = λ j x h. bears_stands old new (relay_entry_about n from x v.packet.src a.step) v.packet.src (record {
     peer = refl;
+    concerns = a.concerns x;
     clock = a.hears.clock;
     peers = subst (λ (p : Peer). Updates old.peers new.peers n v.packet.src p) (sym (a.means x)) a.hears.peers;
     quiet = λ cone before. subst (λ (p : Peer). IsQuiet p) (sym (a.means x)) (record { tries = refl; waiting = refl });
@@ -51,6 +53,7 @@ from_client_bubble old new n from v o =
       step = released old n v fate.FromClientBubble;
       hears = o;
       means = λ x. (calls_of_an_entry n (known_to old.peers n v.packet.src) (Some v.packet.src)).trust_and_hear (embedded v.packet.src);
+      concerns = λ x. refl;
       did = λ x is. refl;
     })
 
@@ -60,6 +63,7 @@ unserved old new n from v o =
       step = released old n v fate.Unserved;
       hears = o;
       means = λ x. (calls_of_an_entry n (known_to old.peers n v.packet.src) (Some v.packet.src)).trust_and_hear (embedded v.packet.src);
+      concerns = λ x. refl;
       did = λ x is. refl;
     })
 
@@ -79,5 +83,6 @@ from_client old new n from v o =
       step = passed_on old n v;
       hears = o;
       means = λ x. (calls_of_an_entry n (known_to old.peers n v.packet.src) (Some v.packet.src)).trust_and_hear (embedded v.packet.src);
+      concerns = λ x. refl;
       did = λ x is. ap (λ (s : Span). record (released old n v fate.FromClient) { six = Some s }) (sym (rest_is x v is));
     })

@@ -1,5 +1,5 @@
 -- One entry more: what a relay then stands for.
-use Rattle.relay_core.proofs.Words.{Bool, Entry, Ip6, IsQuiet, LISTED_MS, List, MeansNothing, None, Option, Peer, Relay, RelayAsBefore, RelayDoes, RelayEnters, RelayKeepsAll, RelayStandsFor, Some, StandsForMentions, Table, Updates, [], after, ap, bears_nothing, empty_table, false, given, has_cone, idle_stands, if◌then◌else◌, is_within, just, kept_stands, known_to, le_refl, le_trans, next_stands, no_peer, peer_in, quiet_if, quiet_none, refl, relay_mention, relay_mentions, relay_settings_of, same_ip6, same_ip6-true, subst, sym, true, unwrap_or, while_listed, wordless_entry, ℕ, ◌∙◌, ◌∷◌, ◌≡◌, ◌≤◌}
+use Rattle.relay_core.proofs.Words.{Bool, Entry, Ip6, IsQuiet, LISTED_MS, List, MeansNothing, None, Option, Peer, Relay, RelayAsBefore, RelayDoes, RelayEnters, RelayKeepsAll, RelayStandsFor, Some, StandsForMentions, Table, Updates, [], after, ap, bears_nothing, concerns_peer, empty_table, false, given, has_cone, idle_stands, if◌then◌else◌, is_within, just, kept_stands, known_to, le_refl, le_trans, next_stands, no_peer, peer_in, quiet_if, quiet_none, refl, relay_mention, relay_mentions, relay_settings_of, same_ip6, same_ip6-true, subst, sym, true, unwrap_or, while_listed, wordless_entry, ℕ, ◌∙◌, ◌∷◌, ◌≡◌, ◌≤◌}
 use Rattle.teredo_node.specs.declared.fate.Fate.TheVariants as fate
 
 -- WHO IS QUIET
@@ -36,6 +36,7 @@ nobody_stands r is stands = record {
 -- what an entry means for its peer
 pub record RelayBears (old : Relay) (e : Entry) (who : Ip6) (new : Relay) : Type 0 where
   pub peer : e.peer ≡ Some who
+  pub concerns : concerns_peer (relay_mention e).bearing ≡ true
   pub clock : old.peers.moment ≤ e.moment
   pub peers : Updates old.peers new.peers e.moment who (after (relay_mention e) (known_to old.peers e.moment who))
   pub quiet : has_cone who ≡ true → IsQuiet (known_to old.peers e.moment who) → IsQuiet (after (relay_mention e) (known_to old.peers e.moment who))
@@ -43,7 +44,7 @@ pub record RelayBears (old : Relay) (e : Entry) (who : Ip6) (new : Relay) : Type
 pub bears_stands : (old new : Relay) (e : Entry) (who : Ip6) → RelayBears old e who new → (j : List Entry) → RelayStandsFor old j → RelayStandsFor new (e ∷ j)
 unfolding relay_mentions
 bears_stands old new e who b j h = record {
-  peers = next_stands old.peers new.peers (relay_mention e) (relay_mentions j) who h.peers b.clock b.peer b.peers;
+  peers = next_stands old.peers new.peers (relay_mention e) (relay_mentions j) who h.peers b.clock b.peer b.concerns b.peers;
   quiet = quiet_next old.peers new.peers e.moment who (after (relay_mention e) (known_to old.peers e.moment who))
       (record { clock = b.clock; update = b.peers; quiet = λ cone. b.quiet cone (h.quiet e.moment who b.clock cone) }) h.quiet;
 }

@@ -68,6 +68,7 @@ gave_up old new n who gone o =
     let known = known_to old.peers n who in
     bears_enters old new (wordless_entry n ticked None (Some who) (record (just fate.GiveUp) { gone = gone })) who (emptied known) o (λ j h. record {
       peer = refl;
+      concerns = refl;
       clock = o.clock;
       peers = subst (λ (p : Peer). Updates old.peers new.peers n who p) (sym (calls_of_an_entry n known (Some who)).give_up) o.peers;
       quiet = λ cone before. record { tries = before.tries; waiting = refl };
@@ -80,6 +81,7 @@ tried_again old new n who due o =
     let known = known_to old.peers n who in
     bears_enters old new (wordless_entry n ticked None (Some who) (sending fate.Bubbles (bubble_to (relay_settings_of old) who ∷ []))) who (tried_at n None known) o (λ j h. record {
       peer = refl;
+      concerns = refl;
       clock = o.clock;
       peers = subst (λ (p : Peer). Updates old.peers new.peers n who p) (sym ((calls_of_an_entry n known (Some who)).tried None)) o.peers;
       quiet = λ cone before. absurd (waits_no_more known.waiting before.waiting due.waits);

@@ -85,6 +85,7 @@ sent old new n x p line o =
       did = refl;
       entered = bears_enters old new (wordless_entry n (from_six x) (Some x) (Some p.dst) step) p.dst (touched_at n known) o (λ j h. record {
         peer = refl;
+        concerns = refl;
         clock = o.clock;
         peers = subst (λ (k : Peer). Updates old.peers new.peers n p.dst k) (sym touch) o.peers;
         quiet = λ cone before. subst (λ (k : Peer). IsQuiet k) (sym touch) (record { tries = before.tries; waiting = before.waiting });
@@ -108,6 +109,7 @@ sent_cone old new n who x a =
     bears_enters old new (wordless_entry n (from_six x) (Some x) (Some who) (sending fate.SentCone (send (embedded who) x ∷ []))) who (trusted_at n (embedded who) known)
     (record { clock = a.clock; peers = u; settings = a.settings }) (λ j h. record {
       peer = refl;
+      concerns = refl;
       clock = a.clock;
       peers = subst (λ (k : Peer). Updates old.peers new.peers n who k) (sym ((calls_of_an_entry n known (Some who)).trust (embedded who) (h.quiet n who a.clock a.cone).tries)) u;
       quiet = λ it before. subst (λ (k : Peer). IsQuiet k) (sym ((calls_of_an_entry n known (Some who)).trust (embedded who) before.tries)) (record { tries = refl; waiting = before.waiting });
@@ -130,6 +132,7 @@ queued old new n who x true k =
     bears_enters old new (wordless_entry n (from_six x) (Some x) (Some who) (relay_queues true (relay_settings_of old) who)) who (queued_at n x known)
     (record { clock = k.clock; peers = u; settings = k.settings }) (λ j h. record {
       peer = refl;
+      concerns = refl;
       clock = k.clock;
       peers = subst (λ (p : Peer). Updates old.peers new.peers n who p) (sym ((calls_of_an_entry n known (Some who)).wait x)) u;
       quiet = λ cone before. absurd (false≢true (sym k.plain ∙ cone));
@@ -140,6 +143,7 @@ queued old new n who x false k =
     bears_enters old new (wordless_entry n (from_six x) (Some x) (Some who) (relay_queues false (relay_settings_of old) who)) who (tried_at n None (queued_at n x known))
     (record { clock = k.clock; peers = u; settings = k.settings }) (λ j h. record {
       peer = refl;
+      concerns = refl;
       clock = k.clock;
       peers = subst (λ (p : Peer). Updates old.peers new.peers n who p) (sym ((calls_of_an_entry n known (Some who)).wait_tried x None)) u;
       quiet = λ cone before. absurd (false≢true (sym k.plain ∙ cone));

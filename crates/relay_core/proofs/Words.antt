@@ -31,6 +31,7 @@ pub use Rattle.peer_list.proofs.LawProofs.{calls_of_an_entry, idle_stands, kept_
 pub use Rattle.peer_list.specs.Calls.{TriesUnless, Updates, emptied, heard_at, queued_at, touched_at, tried_at, trusted_at}
 pub use Rattle.peer_list.specs.Judged.{is_spent, is_within}
 pub use Rattle.peer_list.specs.Laws.{after}
+pub use Rattle.peer_list.specs.Mentions.{concerns_peer}
 pub use Rattle.peer_list.specs.Overdue.{IsNoSooner, IsOverdue, due_by, due_moment, listing_at}
 pub use Rattle.peer_list.specs.Peers.{Peer, no_peer, peer_at}
 pub use Rattle.peer_list.specs.Stands.{MeansNothing, SaysTheSame, StandsForMentions, about_nobody, bears_nothing}

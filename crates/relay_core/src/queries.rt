@@ -1,6 +1,7 @@
 //! What a relay tells of an address.
 ghost use Rattle.std.specs.Prelude.{◌≡◌, ◌≤◌, List, option_map, unwrap_or, is_some};
 ghost use Rattle.teredo_node.specs.Journal.{Entry};
+ghost use Rattle.peer_list.specs.Mentions.{latest_peer};
 ghost use Rattle.peer_list.specs.Listed.{is_listed, has_room};
 ghost use Rattle.peer_list.specs.Peers.{no_peer, known};
 ghost use Rattle.relay_rules.specs.Bearings.{relay_mentions};
@@ -24,6 +25,16 @@ impl Relay {
             → is_some (option_map (λ peer. peer.now) result) ≡ is_listed who now.0 (relay_mentions j) }
     {
         self.peers.find(now, who)
+    }
+
+    /// The peer of which the relay changed last what it knows: whom it listed, touched or gave up, since it started.
+    pub fn latest_peer(&self) -> Option<Ip6>
+        /// The latest peer of a relay is the one that its journal's latest entry concerns of those that concern one. It is stated
+        /// in `peer_list/Mentions.antt`.
+        /// Leaves open: whether that peer is still listed.
+        ensures { (j : List Entry) → RelayStandsFor self.now j → result ≡ latest_peer (relay_mentions j) }
+    {
+        self.peers.latest()
     }
 
     /// Whether an address is listed, or may still be.
