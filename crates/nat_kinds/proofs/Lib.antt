@@ -12,6 +12,7 @@ pub mod ShowsLemmas
 pub mod FrontLemmas
 pub mod RecallLemmas
 pub mod StandsLemmas
+pub mod QueryLemmas
 pub mod AnswerLemmas
 pub mod EnteringLemmas
 pub mod OrderLemmas

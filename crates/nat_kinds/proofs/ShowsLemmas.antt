@@ -29,7 +29,7 @@ pub record Shown (kind : NatKind) : Type 0 where
   pub shows : Shows idle now places outs
 
 -- the datagram of a port that counts and has the key is the one that a search by key finds
-by_key : (kind : NatKind) (x : Shown kind) (inside dst : Ep) (port : ℕ) (e : Outward) → find (λ o. port == o.port) x.outs ≡ Some e → has_key kind inside dst e ≡ true → find (has_key kind inside dst) x.outs ≡ Some e
+pub by_key : (kind : NatKind) (x : Shown kind) (inside dst : Ep) (port : ℕ) (e : Outward) → find (λ o. port == o.port) x.outs ≡ Some e → has_key kind inside dst e ≡ true → find (has_key kind inside dst) x.outs ≡ Some e
 by_key kind x inside dst port e f h =
     let port_is : port ≡ e.port = eqb-true port e.port (found_passes _ x.outs e f) in
     find_alike _ _ x.outs (all_map (λ o. has_key kind e.inside e.dst o ≡ (e.port == o.port)) _ x.outs (λ o a. key_alike kind inside dst e o h ∙ a ∙ ap (λ p. p == o.port) (sym port_is)) (AgreesWith-found kind _ x.outs e x.sound.agree f)) ∙ f
@@ -41,7 +41,7 @@ held_is kind x inside dst port live =
     let port_is : port ≡ e.port = eqb-true port e.port (found_passes _ x.outs e f) in
     port_for-held kind inside dst x.outs port (ap port_in (by_key kind x inside dst port e f live.2) ∙ ap (λ p. Some p) (sym port_is))
 
-none_found_by_key : (kind : NatKind) (x : Shown kind) (inside dst : Ep) → HasNoLive kind x.idle x.now x.places inside dst → find (has_key kind inside dst) x.outs ≡ None
+pub none_found_by_key : (kind : NatKind) (x : Shown kind) (inside dst : Ep) → HasNoLive kind x.idle x.now x.places inside dst → find (has_key kind inside dst) x.outs ≡ None
 none_found_by_key kind x inside dst no_live = by_found (find (has_key kind inside dst) x.outs) refl
   where
     by_found : (r : Option Outward) → find (has_key kind inside dst) x.outs ≡ r → r ≡ None

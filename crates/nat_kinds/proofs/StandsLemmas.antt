@@ -13,7 +13,7 @@ pub later_past : (s : NatSettings) (h : List NatEntry) (m n : ℕ) → IsPast s 
 later_past s h m n p le = record { history = p.history; moments = le_trans p.moments le }
 
 -- where the latest datagram is old, nothing counts
-none_count : (s : NatSettings) (h : List NatEntry) (m n : ℕ) (e : Outward) → IsPast s h m → m ≤ e.moment.0 → is_young s.idle n e ≡ false → counting s.idle n h ≡ []
+pub none_count : (s : NatSettings) (h : List NatEntry) (m n : ℕ) (e : Outward) → IsPast s h m → m ≤ e.moment.0 → is_young s.idle n e ≡ false → counting s.idle n h ≡ []
 none_count s h m n e past l y = none_young s.idle n e.moment.0 (kept h) (all_map (λ o. o.moment.0 ≤ latest_moment h) (λ o. o.moment.0 ≤ e.moment.0) (kept h) (λ o k. le_trans k (le_trans past.moments l)) (kept_before s h past.history)) y
 
 -- THE TABLE AFTER A DATAGRAM
@@ -63,14 +63,14 @@ asks T e outs idle n o none old = by_cases (is_young idle n e) (T e) refl refl
     by_cases false false h k = old
 
 -- what was asked lets in at a moment whom these datagrams let in
-record Lets (kind : NatKind) : Type 0 where
+pub record Lets (kind : NatKind) : Type 0 where
   pub idle : ℕ
   pub now : ℕ
   pub asked : List (Way × Millis)
   pub outs : List Outward
   pub each : (src : Ep) (m : Outward) → passes kind idle now asked src m ≡ admits kind outs src m
 
-lets_out : (kind : NatKind) (x : Lets kind) (e : Outward) (new : List (Way × Millis)) → (is_young x.idle x.now e ≡ false → x.outs ≡ [])
+pub lets_out : (kind : NatKind) (x : Lets kind) (e : Outward) (new : List (Way × Millis)) → (is_young x.idle x.now e ≡ false → x.outs ≡ [])
     → IsNoted kind x.asked new e → (src : Ep) (m : Outward) → passes kind x.idle x.now new src m
     ≡ admits kind (cond (is_young x.idle x.now e) (e ∷ x.outs) x.outs) src m
 lets_out Cone x e new none noted src m = refl

@@ -9,6 +9,7 @@ pub use Rattle.std.proofs.lemmas.Map.Keys.{IsDistinct-cons, IsDistinct-from_apar
 pub use Rattle.std.proofs.lemmas.Map.Made.{filter_same_pairs, is_some-lookup}
 pub use Rattle.std.proofs.lemmas.Map.Steps.{le-length_from_below, length-le_from_distinct_below, length-le_from_keys}
 pub use Rattle.std.proofs.lemmas.Option.{none-some, same_Some, slice_get-get_or, slice_get_past, slice_get_within}
+pub use Rattle.std.proofs.lemmas.Result.{err_from_is_err_and}
 pub use Rattle.std.specs.Cmp.{both_ways as both_tests, nat_eq_equiv}
 pub use Rattle.std.specs.List.{AllByRecursion, IsDistinct, list_any}
 pub use Rattle.std.specs.Map.{keys_of, lookup}
@@ -22,15 +23,15 @@ unfoldable pub use Rattle.td_base.specs.Ip4.{same_ip}
 pub use Rattle.td_base.specs.declared.endpoint.Ep.{Ep}
 pub use Rattle.td_base.specs.declared.ipv4.Ip4.{Ip4}
 pub use Rattle.td_base.specs.declared.millis.Millis.{Millis}
-pub use Rattle.nat_kinds.specs.Answer.{GivesAnswer, GivesPort, IsAnswer, answer_of, live_after, nat_answer, port_for}
-pub use Rattle.nat_kinds.specs.Asked.{IsNoted, IsOnce, IsSwept, Recalls, asked_at, asked_by, inside_by, is_recent, keeps_asked, passes, recalled}
+pub use Rattle.nat_kinds.specs.Answer.{GivesAnswer, GivesPort, IsAnswer, answer_of, from_external, leaves_from, live_after, nat_answer, port_for}
+pub use Rattle.nat_kinds.specs.Asked.{IsNoted, IsOnce, IsSwept, Recalls, asked_at, asked_by, asked_with, inside_by, is_recent, keeps_asked, passes, recalled}
 pub use Rattle.nat_kinds.specs.Entering.{admits, inside_if, inside_in, inside_of, is_way_in, lets_in, reaches}
 pub use Rattle.nat_kinds.specs.Front.{HasKeyOnlyAt, IsFront, IsLiveFront}
 pub use Rattle.nat_kinds.specs.History.{Forget, NatEntry, Out, Restart, counting, is_young, kept, without, young}
 pub use Rattle.nat_kinds.specs.Laws.{Asked, IsHistory, IsPast, SameKey, WasAsked, latest_moment}
 pub use Rattle.nat_kinds.specs.Mappings.{IsLowestFree, first_free, has_key, is_used, latest, live_port, lowest_free, port_in}
 pub use Rattle.nat_kinds.specs.Nat.{NatStandsFor, NatState, StandsAsBefore}
-pub use Rattle.nat_kinds.specs.Places.{HasNoLive, IsFree, IsIndexed, IsLiveAt, IsNext, IsPutIn, IsSetAt, Shows, if_young, in_place, indexed, place_at, unless_at, unless_in, unless_key, unless_of, unless_way, way_of}
+pub use Rattle.nat_kinds.specs.Places.{HasNoLive, IsFree, IsIndexed, IsLiveAt, IsNext, IsPutIn, IsSetAt, Shows, if_young, in_place, indexed, place_at, place_with, unless_at, unless_in, unless_key, unless_of, unless_way, way_of}
 pub use Rattle.nat_kinds.specs.Sound.{Agree, AgreesWith, InRange, Sound}
 pub use Rattle.nat_kinds.specs.Way.{asked_way, key_way, same_parts, same_way-self, same_way-true, same_way_equiv}
 unfoldable pub use Rattle.nat_kinds.specs.Way.{same_way}

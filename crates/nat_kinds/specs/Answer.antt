@@ -29,6 +29,15 @@ answer_of s live inside dst = if same_ip dst.ip s.external then Err Hairpin else
 abbrev pub nat_answer : NatSettings → List NatEntry → ℕ → Ep → Ep → Result ℕ NatRefusal
 nat_answer s h n inside dst = answer_of s (live_after s h n) inside dst
 
+-- an answer as an endpoint: a port is one of the external address
+abbrev pub from_external : NatSettings → Result ℕ NatRefusal → Result Ep NatRefusal
+from_external s (Ok port) = Ok (record { ip = s.external; port = port })
+from_external s (Err why) = Err why
+
+-- the external endpoint of such a datagram, or why it is not sent
+abbrev pub leaves_from : NatSettings → List NatEntry → ℕ → Ep → Ep → Result Ep NatRefusal
+leaves_from s h n inside dst = from_external s (nat_answer s h n inside dst)
+
 -- the port that a key without a live port gets: the lowest free one, where fewer than MAPPINGS_MAX keys hold one
 abbrev pub GivesPort : Option ℕ → List Outward → ℕ → Type 0
 GivesPort (Some held) live port = port ≡ held

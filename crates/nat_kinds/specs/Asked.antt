@@ -1,5 +1,5 @@
 -- What a NAT keeps of whom its inside endpoints asked. RFC 3489, section 5.
-use Rattle.std.specs.Prelude.{◌≡◌, ℕ, ◌+◌, ◌-◌, ◌*◌, ◌≤◌, Bool, true, false, ◌&&◌, nat_lt, if◌then◌else◌, List, [], map, Option, Some, None}
+use Rattle.std.specs.Prelude.{◌≡◌, ℕ, ◌+◌, ◌-◌, ◌*◌, ◌≤◌, Bool, true, false, ◌&&◌, nat_lt, if◌then◌else◌, List, [], ◌∷◌, map, Option, Some, None}
 use Rattle.std.specs.List.{IsDistinct}
 use Rattle.std.specs.Map.{lookup, keys_of}
 use Rattle.td_base.specs.Ep.{same_ep}
@@ -27,6 +27,10 @@ keeps_asked Cone = false
 keeps_asked Restricted = true
 keeps_asked Port = true
 keeps_asked Symmetric = false
+
+-- what was asked, with what one datagram more asks
+abbrev pub asked_with : NatKind → Outward → List (Way × Millis) → List (Way × Millis)
+asked_with kind e asked = (asked_way kind e.inside e.dst, e.moment) ∷ asked
 
 -- a mapping lets a datagram from src in at n, where this was asked
 abbrev pub passes : NatKind → ℕ → ℕ → List (Way × Millis) → Ep → Outward → Bool

@@ -20,6 +20,10 @@ in_place (Some o) = o
 abbrev pub place_at : List (Option Outward) → ℕ → Option Outward
 place_at places port = if nat_lt port FIRST_PORT then None else in_place (slice_get places (port - FIRST_PORT))
 
+-- the same, had this datagram been sent from its port
+abbrev pub place_with : List (Option Outward) → Outward → ℕ → Option Outward
+place_with places e port = if port == e.port then Some e else place_at places port
+
 -- it, where it is less than idle old at n
 abbrev pub if_young : ℕ → ℕ → Option Outward → Option Outward
 if_young idle n None = None

@@ -4,9 +4,10 @@ ghost use Rattle.std.specs.HashMap.{spare};
 ghost use Rattle.td_base.specs.declared.millis.Millis.{Millis};
 ghost use Rattle.nat_kinds.specs.Way.{same_way};
 ghost use Rattle.nat_kinds.specs.Places.{unless_in};
-ghost use Rattle.nat_kinds.specs.Asked.{asked_at, is_recent, keeps_asked, passes, IsOnce, IsNoted, IsSwept};
+ghost use Rattle.nat_kinds.specs.Asked.{asked_at, asked_with, is_recent, keeps_asked, passes, IsOnce, IsNoted, IsSwept};
 ghost use Rattle.nat_kinds.specs.declared.way.Way.{Way};
 
+use crate::incoming::Incoming;
 use crate::kind::NatKind;
 use crate::outgoing::Outward;
 use crate::settings::NatSettings;
@@ -28,27 +29,66 @@ fn keeps_asked(kind: NatKind) -> bool
     }
 }
 
-/// Whether this was asked less than `idle` milliseconds ago.
-fn is_recent(asked: &Asked, way: Way, idle: u32, now: Millis) -> bool
-    ensures { result ≡ is_recent idle now.0 (asked_at asked.now.entries way) }
+/// When this was asked last.
+fn last_asked(asked: &Asked, way: Way) -> Option<Millis>
+    ensures { result ≡ asked_at asked.now.entries way }
 {
-    match asked.get(&way).copied() {
+    asked.get(&way).copied()
+}
+
+/// When this was asked last, had a datagram more been sent.
+fn last_asked_with(asked: &Asked, kind: NatKind, sent: &Outward, way: Way) -> Option<Millis>
+    ensures { result ≡ asked_at (asked_with kind sent.now asked.now.entries) way }
+{
+    if way == asked_of(kind, sent.inside, sent.dst) {
+        return Some(sent.moment);
+    }
+    last_asked(asked, way)
+}
+
+/// Whether a moment is less than `idle` milliseconds ago.
+fn is_recent(moment: Option<Millis>, idle: u32, now: Millis) -> bool
+    ensures { result ≡ is_recent idle now.0 moment }
+{
+    match moment {
         Some(moment) => now.0.saturating_sub(moment.0) < u64::from(idle),
         None => false,
     }
 }
 
-/// Whether a mapping lets a datagram from `src` in: RFC 3489, section 5.
-pub fn passes(asked: &Asked, settings: &NatSettings, now: Millis, src: Ep, sent: &Outward) -> bool
-    ensures { result ≡ passes settings.now.kind settings.now.idle now.0 asked.now.entries src sent.now }
+/// Whether a mapping lets a datagram in: RFC 3489, section 5.
+pub fn passes(asked: &Asked, settings: &NatSettings, incoming: Incoming, mapping: &Outward) -> bool
+    ensures { result ≡ passes settings.now.kind settings.now.idle incoming.moment.0 asked.now.entries incoming.src mapping.now }
 {
     match settings.kind {
         NatKind::Cone => true,
         NatKind::Restricted | NatKind::Port => {
-            let way = asked_of(settings.kind, sent.inside, src);
-            is_recent(asked, way, settings.idle, now)
+            let way = asked_of(settings.kind, mapping.inside, incoming.src);
+            is_recent(last_asked(asked, way), settings.idle, incoming.moment)
         }
-        NatKind::Symmetric => sent.dst == src,
+        NatKind::Symmetric => mapping.dst == incoming.src,
+    }
+}
+
+/// Whether it does, had a datagram more been sent.
+pub fn passes_with(
+    asked: &Asked,
+    settings: &NatSettings,
+    incoming: Incoming,
+    mapping: &Outward,
+    sent: &Outward,
+) -> bool
+    ensures { result
+        ≡ passes settings.now.kind settings.now.idle incoming.moment.0 (asked_with settings.now.kind sent.now asked.now.entries) incoming.src mapping.now }
+{
+    match settings.kind {
+        NatKind::Cone => true,
+        NatKind::Restricted | NatKind::Port => {
+            let way = asked_of(settings.kind, mapping.inside, incoming.src);
+            let moment = last_asked_with(asked, settings.kind, sent, way);
+            is_recent(moment, settings.idle, incoming.moment)
+        }
+        NatKind::Symmetric => mapping.dst == incoming.src,
     }
 }
 

@@ -7,6 +7,8 @@
 //! - A `Nat` stands for the history of its calls (`specs/Nat.antt`), and each call answers what that history
 //!   gives: `outward` is `nat_answer`, `inward` is `lets_in`. The histories are quantified in each clause, so a
 //!   caller composes calls without looking into `NatStandsFor`.
+//! - `port`, `leaves` and `lets_in_once` ask and change nothing: which port is live, where a datagram would leave, and
+//!   who would be let in had it been sent.
 //! - Only an outward datagram keeps a mapping or a permission alive: `inward` changes nothing.
 //! - `Hairpin` comes before `Full`, and both come exactly where the history gives them. `NoMemory` comes only
 //!   from `outward`, and the NAT then stands for what it stood for. No other call takes memory.
@@ -26,7 +28,7 @@
 //! | module | holds | stated in |
 //! |---|---|---|
 //! | `kind`, `refusal`, `settings`, `limits` | the small types, the ports that are given | `specs/Kinds.antt` |
-//! | `departure` | a datagram that is to go out | |
+//! | `departure`, `incoming` | a datagram that is to go out, and one that is to come in | |
 //! | `outgoing` | `Outward`: its age, its key | `specs/History.antt`, `Mappings.antt` |
 //! | `way` | what mappings and permissions are found by | `specs/Way.antt` |
 //! | `places`, `index` | the latest datagram of each port, and the port of each key | `specs/Places.antt` |
@@ -49,6 +51,7 @@
 mod asked;
 mod departure;
 mod front;
+mod incoming;
 mod index;
 mod kind;
 mod laws;

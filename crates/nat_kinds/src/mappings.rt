@@ -4,22 +4,23 @@ ghost use Rattle.std.specs.HashMap.{spare};
 ghost use Rattle.nat_kinds.specs.Mappings.{latest, live_port};
 ghost use Rattle.nat_kinds.specs.Answer.{port_for, answer_of, GivesAnswer};
 ghost use Rattle.nat_kinds.specs.Sound.{Sound};
-ghost use Rattle.nat_kinds.specs.Places.{place_at, if_young, unless_of, unless_in, HasRoom, IsIndexed, IsNext, IsPutIn, Shows};
+ghost use Rattle.nat_kinds.specs.Places.{place_at, place_with, if_young, unless_of, unless_in, HasRoom, IsIndexed, IsNext, IsPutIn, Shows};
 ghost use Rattle.nat_kinds.specs.Front.{HasKeyOnlyAt, IsFront};
-ghost use Rattle.nat_kinds.specs.Asked.{asked_at, inside_by, keeps_asked, IsNoted, IsOnce};
+ghost use Rattle.nat_kinds.specs.Asked.{asked_at, asked_with, inside_by, keeps_asked, IsNoted, IsOnce};
 ghost use Rattle.nat_kinds.specs.declared.outgoing.Outward.{Outward};
 ghost use Rattle.nat_kinds.specs.declared.way.Way.{Way};
 
 use crate::asked::{self, Asked};
 use crate::departure::Departure;
 use crate::front::Front;
+use crate::incoming::Incoming;
 use crate::index::{self, Index};
 use crate::kind::NatKind;
 use crate::outgoing::Outward;
 use crate::places;
 use crate::refusal::NatRefusal;
 use crate::settings::NatSettings;
-use td_base::{Ep, Millis};
+use td_base::Ep;
 
 /// The port of a datagram: the one that its key holds, else the lowest free one.
 fn port_for(
@@ -48,6 +49,30 @@ fn port_for(
         return Ok(port);
     }
     places::lowest_free(places, front, settings.idle, moment).ok_or(NatRefusal::Full)
+}
+
+/// The port from which a datagram leaves, or why it isn't sent.
+pub fn answer(
+    places: &[Option<Outward>],
+    index: &Index,
+    front: &mut Front,
+    settings: &NatSettings,
+    departure: Departure,
+) -> Result<u16, NatRefusal>
+    requires indexed { IsIndexed settings.now.kind places.now index.now.entries }
+    requires front { IsFront places.now front.old }
+    requires past { front.old.since.0 ≤ departure.moment.0 }
+    ensures value { (outs : List Outward) → Sound settings.now.kind outs → Shows settings.now.idle departure.moment.0 places.now outs →
+        result ≡ answer_of settings.now (latest settings.now.kind outs) departure.inside departure.dst }
+    ensures next { IfOk result (IsNext places.now) }
+    ensures front { IsFront places.now front.new }
+    ensures past { front.new.since.0 ≤ departure.moment.0 }
+    ensures key { IfOk result (HasKeyOnlyAt settings.now.kind departure.inside departure.dst places.now front.new) }
+{
+    if departure.dst.ip == settings.external {
+        return Err(NatRefusal::Hairpin);
+    }
+    port_for(places, index, front, settings, departure)
 }
 
 /// Takes all the memory that a datagram wants, and changes nothing that is seen.
@@ -107,10 +132,7 @@ pub fn send(
         inside,
         dst,
     } = departure;
-    if dst.ip == settings.external {
-        return Err(NatRefusal::Hairpin);
-    }
-    let port = port_for(places, index, front, settings, departure)?;
+    let port = answer(places, index, front, settings, departure)?;
     let sent = Outward {
         moment,
         inside,
@@ -149,26 +171,59 @@ pub fn forget(
     asked::forget_asked(asked, inside);
 }
 
-/// The inside endpoint that a datagram from `src` to a port is let in to.
+/// The inside endpoint that a datagram is let in to.
 pub fn inside_at(
     places: &[Option<Outward>],
     asked: &Asked,
     settings: &NatSettings,
-    now: Millis,
-    src: Ep,
-    port: u16,
+    incoming: Incoming,
 ) -> Option<Ep>
     ensures value { result
-        ≡ inside_by settings.now.kind settings.now.idle now.0 asked.now.entries src (if_young settings.now.idle now.0 (place_at places.now port)) }
+        ≡ inside_by settings.now.kind settings.now.idle incoming.moment.0 asked.now.entries incoming.src
+        (if_young settings.now.idle incoming.moment.0 (place_at places.now incoming.port)) }
 {
-    let Some(sent) = places::at(places, port) else {
+    let Some(mapping) = places::at(places, incoming.port) else {
         return None;
     };
-    if !sent.is_young(settings.idle, now) {
+    if !mapping.is_young(settings.idle, incoming.moment) {
         return None;
     }
-    if !asked::passes(asked, settings, now, src, &sent) {
+    if !asked::passes(asked, settings, incoming, &mapping) {
         return None;
     }
-    Some(sent.inside)
+    Some(mapping.inside)
+}
+
+/// The latest datagram of a port, had one more been sent.
+fn at_with(places: &[Option<Outward>], sent: &Outward, port: u16) -> Option<Outward>
+    ensures { result ≡ place_with places.now sent.now port }
+{
+    if port == sent.port {
+        return Some(*sent);
+    }
+    places::at(places, port)
+}
+
+/// The inside endpoint that a datagram would be let in to, had another one been sent.
+pub fn inside_with(
+    places: &[Option<Outward>],
+    asked: &Asked,
+    settings: &NatSettings,
+    incoming: Incoming,
+    sent: &Outward,
+) -> Option<Ep>
+    ensures value { result
+        ≡ inside_by settings.now.kind settings.now.idle incoming.moment.0 (asked_with settings.now.kind sent.now asked.now.entries) incoming.src
+        (if_young settings.now.idle incoming.moment.0 (place_with places.now sent.now incoming.port)) }
+{
+    let Some(mapping) = at_with(places, sent, incoming.port) else {
+        return None;
+    };
+    if !mapping.is_young(settings.idle, incoming.moment) {
+        return None;
+    }
+    if !asked::passes_with(asked, settings, incoming, &mapping, sent) {
+        return None;
+    }
+    Some(mapping.inside)
 }

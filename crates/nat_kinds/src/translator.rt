@@ -1,14 +1,16 @@
 //! A network address translator.
-ghost use Rattle.std.specs.Prelude.{◌≡◌, ℕ, ◌≤◌, [], ◌∷◌, List, IfOk, OnErr};
+ghost use Rattle.std.specs.Prelude.{◌≡◌, ℕ, ◌≤◌, [], ◌∷◌, List, Ok, IfOk, OnErr};
 ghost use Rattle.nat_kinds.specs.History.{NatEntry, Out, Forget, Restart};
-ghost use Rattle.nat_kinds.specs.Answer.{nat_answer, GivesAnswer};
+ghost use Rattle.nat_kinds.specs.Mappings.{live_port};
+ghost use Rattle.nat_kinds.specs.Answer.{live_after, nat_answer, leaves_from, GivesAnswer};
 ghost use Rattle.nat_kinds.specs.Entering.{lets_in};
 ghost use Rattle.nat_kinds.specs.Nat.{NatStandsFor, StandsAsBefore};
 
 use crate::asked::{self, Asked};
 use crate::departure::Departure;
 use crate::front::Front;
-use crate::index::Index;
+use crate::incoming::Incoming;
+use crate::index::{self, Index};
 use crate::kind::NatKind;
 use crate::mappings;
 use crate::outgoing::Outward;
@@ -122,7 +124,73 @@ impl Nat {
         ensures answer { (h : List NatEntry) → NatStandsFor self.now h →
             result ≡ lets_in self.now.settings h now.0 src port }
     {
-        mappings::inside_at(&self.places, &self.asked, &self.settings, now, src, port)
+        let incoming = Incoming {
+            moment: now,
+            src,
+            port,
+        };
+        mappings::inside_at(&self.places, &self.asked, &self.settings, incoming)
+    }
+
+    /// The port that the mapping of datagrams from `inside` to `dst` holds now: none where it isn't live. What asks
+    /// what a NAT keeps calls it.
+    pub fn port(&self, now: Millis, inside: Ep, dst: Ep) -> Option<u16>
+        requires clock { self.now.moment ≤ now.0 }
+        /// `port` gives the port that the history has live for the key, and changes nothing.
+        /// Needs: moments don't fall.
+        ensures answer { (h : List NatEntry) → NatStandsFor self.now h →
+            result ≡ live_port self.now.settings.kind inside dst (live_after self.now.settings h now.0) }
+    {
+        index::held_port(&self.places, &self.index, &self.settings, now, inside, dst)
+    }
+
+    /// The external endpoint that a datagram from `inside` to `dst` would leave from, were it sent now: `outward`
+    /// without the datagram, and without a want of memory.
+    pub fn leaves(&self, now: Millis, inside: Ep, dst: Ep) -> Result<Ep, NatRefusal>
+        requires clock { self.now.moment ≤ now.0 }
+        /// `leaves` gives where the history lets the datagram leave, or the refusal, and changes nothing.
+        /// Needs: moments don't fall.
+        ensures answer { (h : List NatEntry) → NatStandsFor self.now h →
+            result ≡ leaves_from self.now.settings h now.0 inside dst }
+    {
+        let departure = Departure {
+            moment: now,
+            inside,
+            dst,
+        };
+        // a copy: a search moves it on
+        let mut front = self.front;
+        let port = mappings::answer(
+            &self.places,
+            &self.index,
+            &mut front,
+            &self.settings,
+            departure,
+        )?;
+        Ok(Ep {
+            ip: self.settings.external,
+            port,
+        })
+    }
+
+    /// The inside endpoint that a datagram from `src` to an external port would be let in to, had `sent` been sent
+    /// from the port that `leaves` gives it.
+    pub fn lets_in_once(&self, now: Millis, src: Ep, port: u16, sent: Outward) -> Option<Ep>
+        requires clock { self.now.moment ≤ sent.moment.0 }
+        requires past { sent.moment.0 ≤ now.0 }
+        /// `lets_in_once` gives what `inward` would, had a datagram been sent that the history lets leave from its
+        /// port, and changes nothing.
+        /// Needs: moments don't fall.
+        ensures answer { (h : List NatEntry) → NatStandsFor self.now h →
+            nat_answer self.now.settings h sent.moment.0 sent.inside sent.dst ≡ Ok sent.port →
+            result ≡ lets_in self.now.settings (Out sent ∷ h) now.0 src port }
+    {
+        let incoming = Incoming {
+            moment: now,
+            src,
+            port,
+        };
+        mappings::inside_with(&self.places, &self.asked, &self.settings, incoming, &sent)
     }
 
     /// Drops the mappings and permissions of one inside endpoint. Its ports are free from then on.

@@ -2,3 +2,5 @@ mod Words
 pub mod PairLemmas
 pub mod ThereLemmas
 pub mod PassLemmas
+pub mod LeaveLemmas
+pub mod WalkLemmas

@@ -44,6 +44,16 @@ other_out : (j k m : ℕ) (from dst : Ep) (port : ℕ) (passed : List Passing) (
 other_out j k m from dst port passed h other =
     ap (λ (b : Bool). cond b (Out (passing k m from dst port).datagram ∷ outs_at j passed) (outs_at j passed) ++ h j) (ne_eqb k j (λ e. other (sym e)))
 
+-- a datagram on its way comes to one of these NATs, which stand for their histories with what was let out till then
+pub record Arriving (list : List (Option NatState)) : Type 0 where
+  pub t : TopologyState
+  pub h : NatPasts
+  pub m : ℕ
+  pub from : Ep
+  pub dst : Ep
+  pub passed : List Passing
+  pub stand : NatsStand t list (after_passing passed h)
+
 module _ (list : List (Option NatState)) (k : ℕ) (now new : NatState) (at : slice_get list k ≡ Some (Some now)) (same : new.settings ≡ now.settings) where
   abbrev later : List (Option NatState)
   later = set list k (Some new)
@@ -73,19 +83,18 @@ module _ (list : List (Option NatState)) (k : ℕ) (now new : NatState) (at : sl
       stands_at j nat (inl put) = subst (λ (i : ℕ). NatStandsFor nat (after i)) (sym put.0) (subst (λ (x : NatState). NatStandsFor x (after k)) (sym (same_Some nat new put.1)) here)
       stands_at j nat (inr there) = subst (NatStandsFor nat) (sym (apart j there.0)) (stand.stands j nat there.1)
 
-  module _ (t : TopologyState) (h : NatPasts) (m : ℕ) (from dst : Ep) (passed : List Passing) (stand : NatsStand t list (after_passing passed h)) where
-    pub passes : (result : Result Ep NatRefusal) → ((past : List NatEntry) → NatStandsFor now past → GivesAnswer now.settings (nat_answer now.settings past m from dst) result)
-        → IfOk result (λ ep. (past : List NatEntry) → NatStandsFor now past → NatStandsFor new (Out (passing k m from dst ep.port).datagram ∷ past)) → OnErr result (StandsAsBefore now new)
-        → Passes t h m from dst passed k result later
-    passes (Ok ep) answer stands refused = record {
-      answer = subst (λ (s : NatSettings). GivesAnswer s (nat_answer s (after_passing passed h k) m from dst) (Ok ep)) (stand.set_up k now at) (answer _ (stand.stands k now at));
-      stands = stand_later t (after_passing passed h) (after_passing (passing k m from dst ep.port ∷ passed) h) stand
-          (subst (NatStandsFor new) (sym (own_out t k m from dst ep.port passed h)) (stands _ (stand.stands k now at))) (λ j other. other_out j k m from dst ep.port passed h other);
-    }
-    passes (Err why) answer stands refused = record {
-      answer = subst (λ (s : NatSettings). GivesAnswer s (nat_answer s (after_passing passed h k) m from dst) (Err why)) (stand.set_up k now at) (answer _ (stand.stands k now at));
-      stands = stand_later t (after_passing passed h) (after_passing passed h) stand (refused _ (stand.stands k now at)) (λ j other. refl);
-    }
+  pub passes : (a : Arriving list) (result : Result Ep NatRefusal) → ((past : List NatEntry) → NatStandsFor now past → GivesAnswer now.settings (nat_answer now.settings past a.m a.from a.dst) result)
+      → IfOk result (λ ep. (past : List NatEntry) → NatStandsFor now past → NatStandsFor new (Out (passing k a.m a.from a.dst ep.port).datagram ∷ past)) → OnErr result (StandsAsBefore now new)
+      → Passes a.t a.h a.m a.from a.dst a.passed k result later
+  passes a (Ok ep) answer stands refused = record {
+    answer = subst (λ (s : NatSettings). GivesAnswer s (nat_answer s (after_passing a.passed a.h k) a.m a.from a.dst) (Ok ep)) (a.stand.set_up k now at) (answer _ (a.stand.stands k now at));
+    stands = stand_later a.t (after_passing a.passed a.h) (after_passing (passing k a.m a.from a.dst ep.port ∷ a.passed) a.h) a.stand
+        (subst (NatStandsFor new) (sym (own_out a.t k a.m a.from a.dst ep.port a.passed a.h)) (stands _ (a.stand.stands k now at))) (λ j other. other_out j k a.m a.from a.dst ep.port a.passed a.h other);
+  }
+  passes a (Err why) answer stands refused = record {
+    answer = subst (λ (s : NatSettings). GivesAnswer s (nat_answer s (after_passing a.passed a.h k) a.m a.from a.dst) (Err why)) (a.stand.set_up k now at) (answer _ (a.stand.stands k now at));
+    stands = stand_later a.t (after_passing a.passed a.h) (after_passing a.passed a.h) a.stand (refused _ (a.stand.stands k now at)) (λ j other. refl);
+  }
 
 -- where no NAT stands, none is changed
 pub none_with : (t : TopologyState) (list : List (Option NatState)) (k : ℕ) (h : NatPasts) (e : NatEntry) → ((nat : NatState) → slice_get list k ≡ Some (Some nat) → ⊥)

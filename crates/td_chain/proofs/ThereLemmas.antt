@@ -48,7 +48,7 @@ with_external ip (Some (client a)) e = e
 with_external ip (Some (relay a)) e = e
 with_external ip (Some (native a)) e = e
 
-one_of_two : (test : Bool) (a j : ℕ) (rest : Option ℕ) → cond test (Some a) rest ≡ Some j → ((test ≡ true) × (a ≡ j)) ⊎ (rest ≡ Some j)
+pub one_of_two : (test : Bool) (a j : ℕ) (rest : Option ℕ) → cond test (Some a) rest ≡ Some j → ((test ≡ true) × (a ≡ j)) ⊎ (rest ≡ Some j)
 one_of_two true a j rest e = inl (refl, same_Some a j e)
 one_of_two false a j rest e = inr e
 

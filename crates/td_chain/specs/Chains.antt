@@ -10,7 +10,7 @@ use Rattle.nat_kinds.specs.Nat.{NatStandsFor}
 use Rattle.topology.specs.declared.node.Node.{Node}
 use Rattle.topology.specs.Rows.{TopologyState}
 use Rattle.topology.specs.Topology.{nodes, as_nat, nat_settings}
-use Rattle.topology.specs.Chains.{Behind, NatPasts, Passing, after_passing, nat_set_up, crossing, way_out, Inward, comes_to, shut_at}
+use Rattle.topology.specs.Chains.{Behind, NatPasts, Passing, after_passing, nat_set_up, Crossing, crossing, way_out, Inward, comes_to, shut_at}
 use Rattle.td_chain.specs.declared.way.Way.{Way}
 use Rattle.td_chain.specs.declared.way.Way.TheVariants.{In, Closed}
 use Rattle.td_chain.specs.ChainRules.{is_chain}
@@ -80,6 +80,20 @@ Crosses t h m from dst passed way result new = ((crossing t h m dst way from pas
 -- from behind NAT k, where this was let out before
 abbrev pub CrossesChain : ChainsState → ChainsState → NatPasts → List Passing → ℕ → ℕ → Ep → Ep → Result Ep NatRefusal → Type 0
 CrossesChain old new h passed m k inside dst result = Crosses old.topology h m inside dst passed (way_out old.chain k) result new.nats
+
+-- WERE ONE SENT
+
+-- what would become of a datagram that is sent at m from inside NAT k to dst, on its way out
+abbrev pub crossing_out : TopologyState → List Behind → NatPasts → (m k : ℕ) → (inside dst : Ep) → Crossing
+crossing_out t chain h m k inside dst = crossing t h m dst (way_out chain k) inside []
+
+-- where it would leave the outermost NAT, or why it wouldn't
+abbrev pub chain_out : TopologyState → List Behind → NatPasts → (m k : ℕ) → (inside dst : Ep) → Result Ep NatRefusal
+chain_out t chain h m k inside dst = (crossing_out t chain h m k inside dst).leaves
+
+-- the histories once it was sent: with what the NATs on its way let out of it
+abbrev pub once_sent : TopologyState → List Behind → NatPasts → (m k : ℕ) → (inside dst : Ep) → NatPasts
+once_sent t chain h m k inside dst = after_passing (crossing_out t chain h m k inside dst).passed h
 
 -- IN
 

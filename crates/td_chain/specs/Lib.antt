@@ -5,3 +5,5 @@ pub mod Pairs
 pub mod Chains
 pub mod Pass
 pub mod Numbers
+pub mod Ascent
+pub mod Walk

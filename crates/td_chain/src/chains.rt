@@ -1,23 +1,32 @@
 //! NATs, of which some are behind others.
-ghost use Rattle.std.specs.Prelude.{◌≡◌, ◌≤◌, ℕ, List, [], true, None, Some, IfOk, IfErr};
+ghost use Rattle.std.specs.Prelude.{◌≡◌, ◌≤◌, ℕ, List, [], true, None, Some, length, option_map, slice_get, IfOk, IfErr};
 ghost use Rattle.std.specs.List.{list_any, list_all};
 ghost use Rattle.nat_kinds.specs.Kinds.{is_symmetric, is_cone_kind};
 ghost use Rattle.nat_kinds.specs.History.{Forget, Restart};
+ghost use Rattle.nat_kinds.specs.Mappings.{live_port};
+ghost use Rattle.nat_kinds.specs.Answer.{live_after};
 ghost use Rattle.topology.specs.Named.{is_nat};
 ghost use Rattle.topology.specs.Topology.{node_at};
 ghost use Rattle.topology.specs.Chains.{NatPasts, Passing, after_passing, is_inner, chain_in, nats_from, way_out, last_nat, nat_set_up, outer_in};
 ghost use Rattle.td_chain.specs.declared.chain_fault.ChainFault.TheVariants.{Chain};
 ghost use Rattle.td_chain.specs.ChainText.{chain_asked};
-ghost use Rattle.td_chain.specs.Chains.{ChainsStandFor, AreNatsOf, CrossesChain, with_nat_entry, inward_of};
+ghost use Rattle.td_chain.specs.Chains.{ChainsStandFor, AreNatsOf, CrossesChain, with_nat_entry, inward_of, chain_out, once_sent};
+ghost use Rattle.td_chain.specs.ChainRules.{is_chain};
+ghost use Rattle.td_chain.specs.Walk.{passing_of, walk};
 
 use crate::chain_fault::ChainFault;
 use crate::chain_text::read_chain;
 use crate::entering::{Nats, come_in};
 use crate::first_nats::first_nats;
 use crate::forgetting::{forget_at, restart_at};
-use crate::nesting::{Nesting, is_inner};
+use crate::leave::leave_out;
+use crate::let_out::LetOut;
+use crate::nesting::{Nesting, is_inner, outer_in};
+use crate::once::come_in_once;
 use crate::outside::{has_symmetric, is_all_cone, outermost};
-use crate::passing::{Leaving, pass_out};
+use crate::passing::{Leaving, pass_out, port_at};
+use crate::sending::Sending;
+use crate::walk::walk_out;
 use crate::way::Way;
 use nat_kinds::{Nat, NatRefusal};
 use std::alloc::Global;
@@ -142,6 +151,76 @@ impl<'a> Chains<'a> {
         come_in(all, now, nat, src, port)
     }
 
+    /// The port that a NAT has live now for datagrams from `inside` to `dst`: none where the mapping isn't live.
+    pub fn port(&self, now: Millis, nat: u16, inside: Ep, dst: Ep) -> Option<u16>
+        requires nat { is_nat (node_at self.now.topology nat) ≡ true }
+        requires clock { self.now.moment ≤ now.0 }
+        /// `port` answers the port that the NAT's history has live for the key, and changes nothing.
+        /// Needs: moments don't fall.
+        ensures { (h : NatPasts) → ChainsStandFor self.now h
+            → result ≡ live_port (nat_set_up self.now.topology nat).kind inside dst (live_after (nat_set_up self.now.topology nat) (h nat) now.0) }
+    {
+        port_at(self.nats.as_slice(), nat, now, inside, dst)
+    }
+
+    /// Where a datagram would leave the outermost NAT on its way, were it sent.
+    pub fn leaves(&self, sending: Sending) -> Result<Ep, NatRefusal>
+        requires nat { is_nat (node_at self.now.topology sending.nat) ≡ true }
+        requires clock { self.now.moment ≤ sending.now.0 }
+        /// `leaves` answers where a datagram would leave the outermost NAT on its way, or the refusal of the first NAT
+        /// that would refuse, and changes nothing.
+        /// Needs: moments don't fall.
+        ensures { (h : NatPasts) → ChainsStandFor self.now h
+            → result ≡ chain_out self.now.topology self.now.chain h sending.now.0 sending.nat sending.inside sending.dst }
+    {
+        let all = Nats {
+            topology: self.topology,
+            chain: self.chain.as_slice(),
+            nats: self.nats.as_slice(),
+        };
+        leave_out(all, sending)
+    }
+
+    /// Where a datagram from `src` would end that comes to a port of a NAT, had one been sent.
+    pub fn lets_in_once(&self, sending: Sending, nat: u16, src: Ep, port: u16) -> Way
+        requires sender { is_nat (node_at self.now.topology sending.nat) ≡ true }
+        requires nat { is_nat (node_at self.now.topology nat) ≡ true }
+        requires clock { self.now.moment ≤ sending.now.0 }
+        /// `lets_in_once` answers where a datagram would end, had one been sent at this moment that each NAT on its way
+        /// let out till one refused, and changes nothing.
+        /// Needs: moments don't fall.
+        ensures { (h : NatPasts) → ChainsStandFor self.now h
+            → inward_of result ≡ chain_in self.now.topology self.now.chain
+            (once_sent self.now.topology self.now.chain h sending.now.0 sending.nat sending.inside sending.dst) sending.now.0 nat src port }
+    {
+        let all = Nats {
+            topology: self.topology,
+            chain: self.chain.as_slice(),
+            nats: self.nats.as_slice(),
+        };
+        come_in_once(all, sending, nat, src, port)
+    }
+
+    /// What the NAT in a place of a datagram's way let out of it, as far as the ports tell that NATs have live: the first
+    /// NAT's is in place 0.
+    pub fn walked(&self, sending: Sending, place: usize) -> Option<LetOut>
+        requires nat { is_nat (node_at self.now.topology sending.nat) ≡ true }
+        requires clock { self.now.moment ≤ sending.now.0 }
+        /// `walked` answers what a walk along a datagram's way has in a place: what the NAT there let out by the port that
+        /// it has live, none from the first NAT on that has none or whose own address the datagram is for.
+        /// Needs: moments don't fall.
+        /// Leaves open: that the datagram was sent, which the law `passed_is_walked` of `states` tells.
+        ensures { (h : NatPasts) → ChainsStandFor self.now h
+            → option_map passing_of result ≡ slice_get (walk self.now.topology h sending.now.0 sending.dst (way_out self.now.chain sending.nat) sending.inside) place }
+    {
+        let all = Nats {
+            topology: self.topology,
+            chain: self.chain.as_slice(),
+            nats: self.nats.as_slice(),
+        };
+        walk_out(all, sending, place)
+    }
+
     /// The topology whose NATs they are.
     pub fn topology(&self) -> &'a Topology
         /// - `Chains` lend the nodes whose NATs they are.
@@ -149,6 +228,8 @@ impl<'a> Chains<'a> {
         ensures value { result.now ≡ self.now.topology }
         /// The NATs that are kept are those of the topology that is lent, by their numbers.
         ensures rows { AreNatsOf self.now.topology self.now.nats }
+        /// The chain of NATs keeps its rules.
+        ensures rules { is_chain self.now.topology self.now.chain ≡ true }
     {
         self.topology
     }
@@ -159,6 +240,23 @@ impl<'a> Chains<'a> {
         ensures { result ≡ is_inner self.now.chain nat }
     {
         is_inner(self.chain.as_slice(), nat)
+    }
+
+    /// The NAT that a NAT is behind. From a client's NAT on these are the NATs on its way out, one after the other.
+    pub fn outer(&self, nat: u16) -> Option<u16>
+        /// The outer NAT of a NAT is that of the first pair of which it is the inner one. It is stated in `Chains.antt` of
+        /// `topology`.
+        ensures { result ≡ outer_in self.now.chain nat }
+    {
+        outer_in(self.chain.as_slice(), nat)
+    }
+
+    /// How many NATs are behind others: no way out has more NATs than one more.
+    pub fn nestings(&self) -> usize
+        /// As many pairs are counted as the chain has.
+        ensures { result ≡ length self.now.chain }
+    {
+        self.chain.len()
     }
 
     /// The NAT at which the way out from behind a NAT ends: itself where it is behind no other one.

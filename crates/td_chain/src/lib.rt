@@ -12,7 +12,10 @@
 //! - Want of memory comes only from `outward`, at a NAT that had a port to give. That NAT and those outside it stay, and
 //!   those inside it have let the datagram out.
 //! - `inward` answers at which NAT the way in ends, and changes nothing. `forget` and `restart` change one NAT.
-//! - `outermost`, `has_symmetric` and `is_all_cone` say what NATs are on a way out.
+//! - `port`, `leaves` and `lets_in_once` ask and change nothing: which port a NAT has live, where a datagram would leave
+//!   were it sent now, and where another one would end then. `walked` tells what each NAT of a way let out of a datagram, by
+//!   the ports that they have live for it.
+//! - `outermost`, `outer`, `nestings`, `has_symmetric` and `is_all_cone` say what NATs are on a way out.
 //!
 //! # What it does not know
 //!
@@ -25,9 +28,11 @@
 //! | `nesting` | a NAT behind another one; who is behind whom | `specs/Nestings.antt`, `Chains.antt` of `topology` |
 //! | `rules` | which chains may be asked for | `specs/ChainRules.antt` |
 //! | `chain_text`, `chain_fault` | the text of a chain, and its refusal | `specs/ChainText.antt`, `Pairs.antt` |
-//! | `passing` | the way out, NAT by NAT | `specs/Chains.antt`, `Pass.antt` |
+//! | `passing` | the way out, NAT by NAT; the port that a NAT has live | `specs/Chains.antt`, `Pass.antt` |
+//! | `sending`, `leave`, `once` | a datagram that would be sent, where it would leave, and who would be let in then | `specs/Chains.antt`, `Ascent.antt` |
 //! | `outside` | what NATs are on a way out | `specs/Chains.antt` of `topology` |
 //! | `entering`, `way` | the way in | `specs/Chains.antt` |
+//! | `walk`, `let_out` | what the NATs of a way let out, by the ports that they have live | `specs/Walk.antt` |
 //! | `forgetting` | one NAT forgets | `specs/Chains.antt` |
 //! | `first_nats` | the NATs of a topology before anything happens | |
 //! | `chains` | `Chains` | `specs/Chains.antt` |
@@ -41,14 +46,21 @@ mod entering;
 mod first_nats;
 mod forgetting;
 mod laws;
+mod leave;
+mod let_out;
 mod nesting;
+mod once;
 mod outside;
 mod passing;
 mod rules;
+mod sending;
+mod walk;
 mod way;
 
 pub use chain_fault::ChainFault;
 pub use chains::Chains;
 pub use laws::chain_numbers;
+pub use let_out::LetOut;
 pub use rules::WAY_MAX;
+pub use sending::Sending;
 pub use way::Way;

@@ -1,7 +1,9 @@
 //! Datagrams pass NATs, one after the other.
 ghost use Rattle.std.specs.Prelude.{◌≡◌, ◌≤◌, ◌∷◌, [], ℕ, List, map, Some, Ok, Err, IfSome};
+ghost use Rattle.nat_kinds.specs.Mappings.{live_port};
+ghost use Rattle.nat_kinds.specs.Answer.{live_after};
 ghost use Rattle.topology.specs.Rows.{TopologyState};
-ghost use Rattle.topology.specs.Chains.{NatPasts, Passing, after_passing, outer_in, nats_from, way_out, let_in};
+ghost use Rattle.topology.specs.Chains.{NatPasts, Passing, after_passing, nat_set_up, outer_in, nats_from, way_out, let_in};
 ghost use Rattle.td_chain.specs.Nestings.{behind_of};
 ghost use Rattle.td_chain.specs.Chains.{NatsStand, set_ups, NatIsThere, NatsReady, Crosses};
 ghost use Rattle.td_chain.specs.Pass.{Passes};
@@ -97,4 +99,17 @@ pub fn let_in(nats: &[Option<Nat>], number: u16, now: Millis, src: Ep, port: u16
         unreachable!()
     };
     nat.inward(now, src, port)
+}
+
+/// The port that the NAT of a number has live for datagrams from `inside` to `dst`.
+pub fn port_at(nats: &[Option<Nat>], number: u16, now: Millis, inside: Ep, dst: Ep) -> Option<u16>
+    requires there { NatIsThere nats.now number }
+    requires ready { NatsReady now.0 nats.now }
+    ensures { (t : TopologyState) (h : NatPasts) → NatsStand t nats.now h
+        → result ≡ live_port (nat_set_up t number).kind inside dst (live_after (nat_set_up t number) (h number) now.0) }
+{
+    let Some(nat) = &nats[usize::from(number)] else {
+        unreachable!()
+    };
+    nat.port(now, inside, dst)
 }

@@ -18,7 +18,7 @@ returns-clause-passes c = λ t h passed stand.
     let new = c.outward.new.self in
     let e = c.outward.ensures in
     subst (λ (n : ℕ). Passes t h c.args.leaving.now.0 c.args.from c.args.leaving.dst passed n c.outward.result (set items k (Some new))) c.from.ensures
-    (passes items k c.in-Some.nat new (here c) e.settings t h c.args.leaving.now.0 c.args.from c.args.leaving.dst passed stand c.outward.result e.answer e.stands e.refused)
+    (passes items k c.in-Some.nat new (here c) e.settings (record { t = t; h = h; m = c.args.leaving.now.0; from = c.args.from; dst = c.args.leaving.dst; passed = passed; stand = stand }) c.outward.result e.answer e.stands e.refused)
 
 pub returns-clause-ready : goal.returns-clause-ready
 returns-clause-ready c =
