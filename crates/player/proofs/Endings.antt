@@ -37,7 +37,7 @@ module _ (a : Account) (s : Scenario) (chain : List Behind) (before after : Sink
       begun = p.begun;
       last = next_of (lab_of s chain) p.history i e;
       next = next_is s chain p.history i e p.place is;
-      needs = subst (λ (z : Lab). NeedsMemory (next_of z p.history i e)) (lab_is s chain w p.topology p.chain_is) (stops (draws s.seed) p.history p.stands);
+      needs = λ easy. subst (λ (z : Lab). NeedsMemory (next_of z p.history i e)) (lab_is s chain w p.topology p.chain_is) (stops (draws s.seed) p.history p.stands);
     };
     lines = p.written;
   }

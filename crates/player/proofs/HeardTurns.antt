@@ -1,7 +1,9 @@
 -- How a scenario that is being played goes on, once a listener heard one more record.
-use Rattle.player.proofs.Words.{ADVANCE_MAX_MS, Account, BeginsLines, BeginsLines-then, Behind, Err, Event, Failed, Falls, Full, IsAgain, IsPlayed, LEFT_MAX, Last, List, More, None, Ok, Option, Rose, Scenario, SinkState, Some, Turn, WorldState, WritesLines, WritesLines-then, Writing, ap, arith, began, draws, false, false≢true, going_after, has_more, is_more, lab_of, left_in, of_its_event, refl, some_lines, subst, sym, true, ℕ, ◌++◌, ◌+◌, ◌<◌, ◌∙◌, ◌∷◌, ◌≡◌, ◌≤◌}
+use Rattle.player.proofs.Words.{ADVANCE_MAX_MS, Account, BeginsLines, BeginsLines-then, Behind, Err, Event, Falls, Full, HearFault, IsAgain, IsHeard, IsPlayed, LEFT_MAX, Last, List, More, None, Ok, Option, Rose, Scenario, SinkState, Some, Turn, WorldState, WritesLines, WritesLines-then, Writing, ap, arith, began, draws, false, false≢true, going_after, has_more, inr, is_more, lab_of, left_in, of_its_event, refl, some_lines, subst, sym, true, unheard, ℕ, ◌++◌, ◌+◌, ◌<◌, ◌∙◌, ◌∷◌, ◌≡◌, ◌≤◌}
 use Rattle.player.proofs.Played.{Kept, IsFree, IsNextOn, Played}
-use Rattle.player.proofs.Turns.{Turned, past, given, stands_on, follows, begun_on}
+use Rattle.player.specs.declared.hear_fault.HearFault.TheVariants as hearing
+use Rattle.player.proofs.Turns.{Turned, past, given, stands_on, follows, begun_on, next_is}
+use Rattle.player.proofs.NothingWritten.{WritesLines-none}
 
 goes_on_with : (e : Event) (turn : Turn) → is_more turn ≡ true → going_after e turn ≡ Some e
 goes_on_with e (More r) is = refl
@@ -101,11 +103,25 @@ module _ (a : Account) (s : Scenario) (chain : List Behind) (before after end : 
     quiet = w.cause.kept ∙ t.played.quiet;
   }
 
-  -- a front of it
-  pub broken : {E : Type 0} (fault : E) → Writing {E = E} after end lines (Err fault) → IsPlayed a s chain before end (Err Failed)
-  broken fault w = (
+  -- a front of it, or nothing for want of memory
+  pub broken : (fault : HearFault) → IsHeard (a.wants (given a s chain before after keeps t)) after end lines (Err fault)
+      → IsPlayed a s chain before end (Err (unheard fault))
+  broken hearing.Failed w = (
     subst (λ (n : ℕ). Rose n end.faults) t.played.quiet w.cause.failed,
     some_lines (given a s chain before after keeps t ∷ past a s chain before after keeps t) (begun_on a s chain before after keeps t)
         (subst (BeginsLines before end) (sym grows)
         (BeginsLines-then before after end (a.lines s.topology (past a s chain before after keeps t)) lines t.played.written w.err)),
+  )
+  broken hearing.NoMemory (wants, same, nothing) = (
+    same ∙ t.played.quiet,
+    inr (record {
+      history = past a s chain before after keeps t;
+      starves = record {
+        begun = t.played.begun;
+        last = given a s chain before after keeps t;
+        next = next_is s chain (past a s chain before after keeps t) t.index t.event t.played.place t.is;
+        needs = λ easy. absurd (false≢true (sym easy ∙ wants));
+      };
+      lines = WritesLines-none before after end (a.lines s.topology (past a s chain before after keeps t)) t.played.written nothing;
+    }),
   )

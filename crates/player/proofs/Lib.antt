@@ -1,6 +1,7 @@
 mod Words
 mod Played
 mod Turns
+mod NothingWritten
 mod HeardTurns
 mod Endings
 mod SmallSums

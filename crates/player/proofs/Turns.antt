@@ -1,5 +1,5 @@
 -- The next record of a scenario that is being played: the turn of the world that made it.
-use Rattle.player.proofs.Words.{Account, BeginsHistory, Begun, Behind, Bool, CanHear, Event, FitsWire, Full, IfOk, IsNews, IsTold, LEFT_MAX, Lab, Last, List, More, Ok, Record, Result, Scenario, SinkState, Some, StandsFor, Steps, Stop, TopologyState, Turn, WorldState, ap, arith, draws, false, has_more, is_more, lab_in, lab_of, lab_on, length, next, next_of, of_its_event, option_map, place, record_in, record_of, records_end, refl, slice_get, subst, true, turn_from, wire, ℕ, ◌<◌, ◌∙◌, ◌∷◌, ◌≡◌}
+use Rattle.player.proofs.Words.{ADVANCE_MAX_MS, Account, BeginsHistory, Begun, Behind, Bool, CLOCK_END_MS, CanHear, Event, FitsWire, Full, IfOk, IsNews, IsTold, LEFT_MAX, Lab, Last, List, More, Ok, Record, Result, Scenario, SinkState, Some, StandsFor, Steps, Stop, TopologyState, Turn, WorldState, ap, arith, draws, false, has_more, is_more, lab_in, lab_of, lab_on, length, next, next_of, of_its_event, option_map, place, record_in, record_of, records_end, refl, slice_get, subst, true, turn_from, wire, ℕ, ◌<◌, ◌∙◌, ◌∷◌, ◌≡◌}
 use Rattle.player.proofs.Played.{Kept, IsNextOn, Played}
 
 -- the laboratory of a world is that of the scenario
@@ -109,17 +109,28 @@ module _ (a : Account) (s : Scenario) (chain : List Behind) (before after : Sink
       let begun : Begun (lab_of s chain) s.events (given ∷ past) = (next_is s chain past t.index t.event t.played.place t.is, t.played.begun.begun) in
       record { begun = begun; fits = fits }
 
+  early : t.new.moment < CLOCK_END_MS
+  early =
+      let most : ADVANCE_MAX_MS ≡ 1000000000 = refl in
+      let end : CLOCK_END_MS ≡ 281474976710656 = refl in
+      omega (arith, most, end, t.steps.time, t.played.began, t.few)
+
   -- what the listener is told
-  pub news : IsNews t.new t.said past given
+  pub news : IsNews s.topology t.new t.event t.said past given
   news = record {
     is = record_is;
+    asked = (of_its_event (lab_of s chain) past t.index t.event).asked;
     tells = tells;
     first = (of_its_event (lab_of s chain) past t.index t.event).first;
     entries = stands_on.wire;
     fits = fits;
+    topology = t.steps.topology ∙ t.played.topology;
+    draws = draws s.seed;
+    stands = stands_on;
+    early = early;
   }
 
-  pub can_hear : CanHear keeps t.new t.said
+  pub can_hear : CanHear keeps t.new t.event t.said
   can_hear = record {
     topology = s.topology;
     history = past;

@@ -5,6 +5,7 @@ pub use Rattle.std.proofs.lemmas.List.{drop_more}
 pub use Rattle.std.proofs.lemmas.List.Sums.{count_by-le-length}
 pub use Rattle.std.proofs.lemmas.Option.{get_or_from_slice_get, slice_get_past, slice_get_read, slice_get_within}
 pub use Rattle.std.proofs.lemmas.Result.{err_from_is_err_and}
+pub use Rattle.std.specs.Io.KnownBytes.{Appends, Keeps}
 pub use Rattle.std.specs.List.{concat}
 pub use Rattle.std.specs.Prelude.{IfErr, IfOk, is_some, map, option_map, slice_get}
 pub use Rattle.td_base.specs.declared.millis.TheConstants.{CLOCK_END_MS}
@@ -12,10 +13,11 @@ pub use Rattle.td_pcap.specs.Captures.{records_bytes}
 pub use Rattle.td_pcap.specs.Heads.{head_bytes}
 pub use Rattle.td_pcap.specs.Records.{Captured, record_bytes}
 pub use Rattle.td_outside.specs.Causes.{Rose}
+pub use Rattle.td_outside.specs.MoveLaws.{GainsAll-nil}
 pub use Rattle.td_outside.specs.Sink.{SinkState}
 pub use Rattle.sink_lines.proofs.Written.{BeginsLines-more, BeginsLines-then, WritesLines-then, Writing-line, not_wrote, nothing_wrote, wrote}
 pub use Rattle.sink_lines.specs.LineLaws.{WritesNothing-refl}
-pub use Rattle.sink_lines.specs.Lines.{BeginsLines, WritesLines, Writing}
+pub use Rattle.sink_lines.specs.Lines.{BeginsLines, WritesLines, WritesNothing, Writing}
 pub use Rattle.teredo_node.specs.Fate.{is_drop}
 pub use Rattle.topology.specs.Chains.{Behind}
 pub use Rattle.topology.specs.Rows.{TopologyState}
@@ -48,5 +50,7 @@ pub use Rattle.player.specs.Account.{Account}
 pub use Rattle.player.specs.Capture.{capture_head, capture_pieces, capture_records, entry_record, packet_of, record_pieces}
 pub use Rattle.player.specs.CaptureLaws.{PiecesAreACapture}
 pub use Rattle.player.specs.Endings.{BeginsHistory, FillsWire, FitsWire, IsPlayed, WholeHistory, WritesStarved, last_line, some_lines, whole_lines}
-pub use Rattle.player.specs.Hearing.{CanHear, IsNews, records_end}
+pub use Rattle.player.specs.Hearing.{CanHear, IsHeard, IsNews, records_end}
+pub use Rattle.player.specs.PlayFaults.{unheard}
+pub use Rattle.player.specs.declared.hear_fault.HearFault.{HearFault}
 pub use Rattle.player.specs.declared.player.PlayFault.TheVariants.{Failed, WireFull}

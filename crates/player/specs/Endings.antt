@@ -1,6 +1,6 @@
 -- How the playing of a scenario ends in which these NATs are behind others, and what was written by then. Each history here
 -- keeps within the wire.
-use Rattle.std.specs.Prelude.{◌≡◌, ◌<◌, ◌≤◌, ◌⊎◌, List, ◌∷◌, length, Some, Result, Ok, Err}
+use Rattle.std.specs.Prelude.{◌≡◌, ◌<◌, ◌≤◌, ◌⊎◌, false, List, ◌∷◌, length, Some, Result, Ok, Err}
 use Rattle.td_outside.specs.Causes.{Rose}
 use Rattle.topology.specs.Chains.{Behind}
 use Rattle.events.specs.Scenario.{Scenario}
@@ -37,12 +37,13 @@ pub record FillsWire (s : Scenario) (chain : List Behind) (history : List Full) 
   pub next : next (lab_of s chain) s.events history ≡ Some last
   pub full : ENTRIES_MAX < length (wire (last ∷ history))
 
--- The next record of the scenario may want memory: it has a mark, or a packet waits or is held, or a peer is trusted in it.
-pub record MayStarve (s : Scenario) (chain : List Behind) (history : List Full) : Type 0 where
+-- The next record of the scenario may want memory: to hear of it may, or it has a mark, or a packet waits or is held, or a peer is
+-- trusted in it.
+pub record MayStarve (a : Account) (s : Scenario) (chain : List Behind) (history : List Full) : Type 0 where
   pub begun : BeginsHistory s chain history
   pub last : Full
   pub next : next (lab_of s chain) s.events history ≡ Some last
-  pub needs : NeedsMemory last
+  pub needs : a.wants last ≡ false → NeedsMemory last
 
 -- All lines of the one legal history were written.
 pub record WritesAll (a : Account) (s : Scenario) (chain : List Behind) (old new : SinkState) : Type 0 where
@@ -59,7 +60,7 @@ pub record WritesFull (a : Account) (s : Scenario) (chain : List Behind) (old ne
 -- The lines of all records before the one that wanted memory were written, whole, and nothing else.
 pub record WritesStarved (a : Account) (s : Scenario) (chain : List Behind) (old new : SinkState) : Type 0 where
   pub history : List Full
-  pub starves : MayStarve s chain history
+  pub starves : MayStarve a s chain history
   pub lines : WritesLines old new (a.lines s.topology history)
 
 -- A front was written: of the lines of the first records, of all lines, or of those that end with a full wire.

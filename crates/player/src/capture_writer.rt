@@ -9,7 +9,9 @@ ghost use Rattle.player.specs.Accounts.{capture_account};
 ghost use Rattle.player.specs.CaptureLaws.{capture_grows};
 
 use crate::entry_record::{RecordRoom, capture_head};
+use crate::hear_fault::HearFault;
 use crate::listener::Listener;
+use events::Event;
 use history::Record;
 use sink_lines::write_line;
 use td_base::{DATAGRAM_MAX, Millis};
@@ -103,7 +105,13 @@ impl Listener for CaptureWriter {
         write_capture_head(out)
     }
 
-    fn hear<K: Sink>(&mut self, world: &World, said: &Record, out: &mut K) -> Result<(), Failed> {
+    fn hear<K: Sink>(
+        &mut self,
+        world: &World,
+        _event: &Event,
+        said: &Record,
+        out: &mut K,
+    ) -> Result<(), HearFault> {
         write_entries(said.moment, world, self.entries, &mut self.room, out)?;
         self.entries = world.entries();
         Ok(())

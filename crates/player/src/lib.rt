@@ -10,7 +10,8 @@
 //! - `ReportWriter` writes the report, `TotalsWriter` the totals alone, `CaptureWriter` the capture of the wire: a head,
 //!   and a record for each entry as soon as it was made. It keeps nothing of it but how many entries there were, and room
 //!   for one record.
-//! - At the end a listener is shown the world as the last record left it.
+//! - With each record a listener is given its event, and shown the world as the record left it; at the end, as the last one did.
+//!   It may answer that it can't hear on: the sink failed, or memory is wanting, where it says that this may be.
 //!
 //! # What it does not know
 //!
@@ -21,7 +22,7 @@
 //!
 //! | module | holds | stated in |
 //! |---|---|---|
-//! | `listener` | `Listener` | `specs/Account.antt`, `specs/Hearing.antt` |
+//! | `listener`, `hear_fault` | `Listener`, and why it can't hear | `specs/Account.antt`, `specs/Hearing.antt` |
 //! | `player` | `play`, `play_flat` | `specs/Endings.antt` |
 //! | `report_writer`, `totals_writer`, `capture_writer` | three listeners | `specs/Accounts.antt` |
 //! | `entry_record` | the record of an entry in a capture | `specs/Capture.antt` |
@@ -30,6 +31,7 @@
 
 mod capture_writer;
 mod entry_record;
+mod hear_fault;
 mod laws;
 mod listener;
 mod player;
@@ -38,6 +40,7 @@ mod totals_writer;
 
 pub use capture_writer::CaptureWriter;
 pub use entry_record::{MILLI_MICROS, SECOND_MS};
+pub use hear_fault::HearFault;
 pub use laws::{moment_numbers, pieces_are_a_capture};
 pub use listener::Listener;
 pub use player::{PlayFault, play, play_flat};

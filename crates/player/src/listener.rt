@@ -6,8 +6,10 @@ ghost use Rattle.legal.specs.Lab.{Draws};
 ghost use Rattle.world.specs.World.{StandsFor, lab_in};
 ghost use Rattle.sink_lines.specs.Lines.{Writing};
 ghost use Rattle.player.specs.Account.{Account};
-ghost use Rattle.player.specs.Hearing.{IsNews, CanHear};
+ghost use Rattle.player.specs.Hearing.{IsNews, CanHear, IsHeard};
 
+use crate::hear_fault::HearFault;
+use events::Event;
 use history::Record;
 use td_outside::{Failed, Sink};
 use world::World;
@@ -31,15 +33,23 @@ pub trait Listener {
         ensures { (t : TopologyState) → keeps self.now t []
             → Writing (K.state out.old) (K.state out.new) (account.lines t []) result };
 
-    /// Hears a record, whose entries are on the wire.
-    fn hear<K: Sink>(&mut self, world: &World, said: &Record, out: &mut K) -> Result<(), Failed>
-        requires { CanHear (keeps self.old) world.now said.now }
+    /// Hears the record that an event made last. Its entries are on the wire, and the world is as it left it.
+    fn hear<K: Sink>(
+        &mut self,
+        world: &World,
+        event: &Event,
+        said: &Record,
+        out: &mut K,
+    ) -> Result<(), HearFault>
+        requires { CanHear (keeps self.old) world.now event.now said.now }
         /// See `written`.
-        ensures kept { (t : TopologyState) (H : List Full) (r : Full) → keeps self.old t H → IsNews world.now said.now H r
+        ensures kept { (t : TopologyState) (H : List Full) (r : Full) → keeps self.old t H → IsNews t world.now event.now said.now H r
             → OnOk result (keeps self.new t (r ∷ H)) }
-        /// A listener writes of a record what it says that it does, and knows of the records so far what it says.
-        ensures written { (t : TopologyState) (H : List Full) (r : Full) → keeps self.old t H → IsNews world.now said.now H r
-            → Writing (K.state out.old) (K.state out.new) (news t H r) result };
+        /// A listener writes of a record what it says that it does, and knows of the records so far what it says. The world
+        /// that it hears of it stands for them. Where it may want memory for the record, it may answer that there is none:
+        /// it has written nothing of the record then.
+        ensures written { (t : TopologyState) (H : List Full) (r : Full) → keeps self.old t H → IsNews t world.now event.now said.now H r
+            → IsHeard (account.wants r) (K.state out.old) (K.state out.new) (news t H r) result };
 
     /// Writes what stands behind the last record. The world is as that record left it.
     fn end<K: Sink>(&self, world: &World, out: &mut K) -> Result<(), Failed>

@@ -6,6 +6,7 @@ ghost use Rattle.events.specs.Events.{IsEvent};
 ghost use Rattle.td_chain.specs.Chains.{ChainsStandFor};
 ghost use Rattle.player.specs.Endings.{IsPlayed};
 
+use crate::hear_fault::HearFault;
 use crate::listener::Listener;
 use events::{EVENTS_MAX, Events};
 use history::Stop;
@@ -20,7 +21,7 @@ use world::{World, blank};
 pub enum PlayFault {
     /// The sink failed.
     Failed,
-    /// Memory ran out before the first record, or for the next one.
+    /// Memory ran out before the first record, or for the next one, or to hear of it.
     NoMemory,
     /// The next record would make more entries of the wire than it holds.
     WireFull,
@@ -43,6 +44,19 @@ impl From<NoMemory> for PlayFault {
 
     fn from(_: NoMemory) -> Self {
         PlayFault::NoMemory
+    }
+}
+
+impl From<HearFault> for PlayFault {
+    ghost use Rattle.player.specs.PlayFaults.{unheard};
+
+    ghost from_gives = { λ fault e. e ≡ unheard fault };
+
+    fn from(fault: HearFault) -> Self {
+        match fault {
+            HearFault::Failed => PlayFault::Failed,
+            HearFault::NoMemory => PlayFault::NoMemory,
+        }
     }
 }
 
@@ -92,7 +106,7 @@ pub fn play<L: Listener, K: Sink>(
                     }
                 },
             };
-            listener.hear(&world, &said, out)?;
+            listener.hear(&world, event, &said, out)?;
             if !more {
                 break;
             }

@@ -5,8 +5,10 @@ ghost use Rattle.report.specs.Lines.{record_line};
 ghost use Rattle.report.specs.Totals.{sums_of, IsFew};
 ghost use Rattle.player.specs.Accounts.{report_account};
 
+use crate::hear_fault::HearFault;
 use crate::listener::Listener;
 use crate::totals_writer::write_totals;
+use events::Event;
 use history::Record;
 use report::{Sums, line};
 use sink_lines::write_line;
@@ -54,7 +56,13 @@ impl Listener for ReportWriter<'_> {
         Ok(())
     }
 
-    fn hear<K: Sink>(&mut self, _world: &World, said: &Record, out: &mut K) -> Result<(), Failed> {
+    fn hear<K: Sink>(
+        &mut self,
+        _world: &World,
+        _event: &Event,
+        said: &Record,
+        out: &mut K,
+    ) -> Result<(), HearFault> {
         line(self.sums.records, said, self.topology, &mut self.buf);
         write_line(out, self.buf.as_slice())?;
         self.sums.add(said);

@@ -4,8 +4,10 @@ ghost use Rattle.report.specs.Totals.{sums_of, totals_line, IsFew};
 ghost use Rattle.sink_lines.specs.Lines.{Writing};
 ghost use Rattle.player.specs.Accounts.{totals_account};
 
+use crate::hear_fault::HearFault;
 use crate::listener::Listener;
 use crate::report_writer::WIRE_FULL_LINE;
+use events::Event;
 use history::Record;
 use report::{Sums, summary};
 use sink_lines::write_line;
@@ -51,7 +53,13 @@ impl Listener for TotalsWriter {
         Ok(())
     }
 
-    fn hear<K: Sink>(&mut self, _world: &World, said: &Record, _out: &mut K) -> Result<(), Failed> {
+    fn hear<K: Sink>(
+        &mut self,
+        _world: &World,
+        _event: &Event,
+        said: &Record,
+        _out: &mut K,
+    ) -> Result<(), HearFault> {
         self.sums.add(said);
         Ok(())
     }

@@ -27,10 +27,10 @@ event_within t list (event.Fault send) of is = tt
 event_within t list event.Settle of is = tt
 
 -- it does what it does
-pub hands : (d : Draws) (w new : WorldState) (H : List Full) (e : Numbered) (v : Verb) (n : ℕ) (x : List ℕ) (a : Node) (m : ℕ) (result : Result Record Stop) → m ≡ w.moment → StandsFor d w H → node_at w.topology n ≡ Some a
-    → Plays d w new H (acts (lab_in d w) H e (plain v) None m n no_ep (given x) a) result
+pub hands : (d : Draws) (w new : WorldState) (H : List Full) (e : Numbered) (v : Verb) (n : ℕ) (x : List ℕ) (a : Node) (result : Result Record Stop) → StandsFor d w H → node_at w.topology n ≡ Some a
+    → Plays d w new H (acts (lab_in d w) H e (plain v) None w.moment n no_ep (given x) a) result
     → Plays d w new H (hands_in (lab_in d w) H e v n x (node_at w.topology n)) result
-hands d w new H e v n x a m result at s there plays =
-    let same : acts (lab_in d w) H e (plain v) None m n no_ep (given x) a ≡ hands_in (lab_in d w) H e v n x (node_at w.topology n) =
-    ap (λ (j : ℕ). acts (lab_in d w) H e (plain v) None j n no_ep (given x) a) (at ∙ s.moment) ∙ ap (hands_in (lab_in d w) H e v n x) (sym there) in
+hands d w new H e v n x a result s there plays =
+    let same : acts (lab_in d w) H e (plain v) None w.moment n no_ep (given x) a ≡ hands_in (lab_in d w) H e v n x (node_at w.topology n) =
+    ap (λ (j : ℕ). acts (lab_in d w) H e (plain v) None j n no_ep (given x) a) s.moment ∙ ap (hands_in (lab_in d w) H e v n x) (sym there) in
     subst (λ (r : Full). Plays d w new H r result) same plays

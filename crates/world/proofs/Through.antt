@@ -105,42 +105,59 @@ next_made w lab H now new sends x src crosses is = ap (λ (r : Result Ep Loss). 
 pub same_twice : (a b c : ChainsState) → b ≡ record a { moment = b.moment; nats = b.nats } → c ≡ record b { moment = c.moment; nats = c.nats } → c ≡ record a { moment = c.moment; nats = c.nats }
 same_twice a b c p q = q ∙ ap (λ (x : ChainsState). record x { moment = c.moment; nats = c.nats }) p
 
-module _ (w : Through) (old : WireState) (before : ChainsState) (sends : List Send) (i : ℕ) (x : Send) (at : slice_get sends i ≡ Some x) where
+-- one send: the wire, the NATs and the marks before it and after it, and the source that it was given
+pub record SendPassed : Type 0 where
+  pub now : WireState
+  pub new : WireState
+  pub nats : ChainsState
+  pub nats' : ChainsState
+  pub said : List Mark
+  pub more : List Mark
+  pub src : Result Ep Loss
+
+-- the send at a place
+pub record SendAt (sends : List Send) (i : ℕ) : Type 0 where
+  pub x : Send
+  pub at : slice_get sends i ≡ Some x
+
+module _ (w : Through) (old : WireState) (before : ChainsState) (sends : List Send) (i : ℕ) (next : SendAt sends i) where
+  open next use {x, at}
+
   -- the next one, by its number
   it_crosses : (now new : ChainsState) (src : Result Ep Loss) → Crosses w (is_at_place i w.fails) now new x.to src → Crosses w (is_at_place (0 + length (take i sends)) w.fails) now new x.to src
   it_crosses now new src crosses = subst (λ (k : ℕ). Crosses w (is_at_place k w.fails) now new x.to src) (sym (place_of sends i x at)) crosses
 
   -- the next one is put, or lost
-  pub one_through : (now new : WireState) (nats nats' : ChainsState) (said more : List Mark) (src : Result Ep Loss)
-      → ThroughSoFar w old now before nats sends i said → Crosses w (is_at_place i w.fails) nats nats' x.to src → ComesOnto now new said more (marked x src ∷ []) → ThroughSoFar w old new before nats' sends (i + 1) more
-  one_through now new nats nats' said more src so crosses puts = record {
+  pub one_through : (the : SendPassed) → ThroughSoFar w old the.now before the.nats sends i the.said → Crosses w (is_at_place i w.fails) the.nats the.nats' x.to the.src
+      → ComesOnto the.now the.new the.said the.more (marked x the.src ∷ []) → ThroughSoFar w old the.new before the.nats' sends (i + 1) the.more
+  one_through the so crosses puts = record {
     enters = λ lab H is.
         let front = sent_in w lab H (take i sends) in
-        let made = next_made w lab H nats nats' (take i sends) x src (it_crosses nats nats' src crosses) (so.knows lab H is) in
-        subst (λ (y : Sendings). ComesOnto old new [] more y.made) (sym (more_in w lab H sends i x at))
-        (enters_twice front.made (next_in w lab H (take i sends) x).made old now new [] said more (so.enters lab H is) (subst (λ (ms : List Made). ComesOnto now new said more ms) (sym made) puts));
+        let made = next_made w lab H the.nats the.nats' (take i sends) x the.src (it_crosses the.nats the.nats' the.src crosses) (so.knows lab H is) in
+        subst (λ (y : Sendings). ComesOnto old the.new [] the.more y.made) (sym (more_in w lab H sends i x at))
+        (enters_twice front.made (next_in w lab H (take i sends) x).made old the.now the.new [] the.said the.more (so.enters lab H is) (subst (λ (ms : List Made). ComesOnto the.now the.new the.said the.more ms) (sym made) puts));
     knows = λ lab H is.
-        subst (λ (y : Sendings). AreNatsWith lab H y.passed nats') (sym (more_in w lab H sends i x at))
-        ((it_crosses nats nats' src crosses).crosses lab H (sent_in w lab H (take i sends)).passed (so.knows lab H is)).knows;
-    begins = begins_twice old now new so.begins (begins_with now new said more (marked x src ∷ []) puts);
-    count = let longer = one_said now new said more (marked x src) puts in let so_far = so.count in omega (arith, longer, so_far);
-    same = same_twice before nats nats' so.same crosses.same;
+        subst (λ (y : Sendings). AreNatsWith lab H y.passed the.nats') (sym (more_in w lab H sends i x at))
+        ((it_crosses the.nats the.nats' the.src crosses).crosses lab H (sent_in w lab H (take i sends)).passed (so.knows lab H is)).knows;
+    begins = begins_twice old the.now the.new so.begins (begins_with the.now the.new the.said the.more (marked x the.src ∷ []) puts);
+    count = let longer = one_said the.now the.new the.said the.more (marked x the.src) puts in let so_far = so.count in omega (arith, longer, so_far);
+    same = same_twice before the.nats the.nats' so.same crosses.same;
     clock = crosses.clock;
   }
 
   -- where it isn't put, not all are
-  pub stops_through : (now new : WireState) (nats nats' : ChainsState) (said more : List Mark) (src : Result Ep Loss) (why : Stop)
-      → ThroughSoFar w old now before nats sends i said → Crosses w (is_at_place i w.fails) nats nats' x.to src → Puts now new said more (marked x src ∷ []) (Err why)
-      → (lab : Lab) (H : List Full) → AreNatsWith lab H [] before → Puts old new [] more (sent_in w lab H sends).made (Err why)
-  stops_through now new nats nats' said more src why so crosses puts lab H is =
+  pub stops_through : (the : SendPassed) (why : Stop) → ThroughSoFar w old the.now before the.nats sends i the.said
+      → Crosses w (is_at_place i w.fails) the.nats the.nats' x.to the.src → Puts the.now the.new the.said the.more (marked x the.src ∷ []) (Err why)
+      → (lab : Lab) (H : List Full) → AreNatsWith lab H [] before → Puts old the.new [] the.more (sent_in w lab H sends).made (Err why)
+  stops_through the why so crosses puts lab H is =
       let front = sent_in w lab H (take i sends) in
       let last = next_in w lab H (take i sends) x in
-      let made = next_made w lab H nats nats' (take i sends) x src (it_crosses nats nats' src crosses) (so.knows lab H is) in
-      let both : Puts old new [] more (front.made ++ last.made) (Err why) =
-      puts_then front.made last.made old now new [] said more (Err why) (so.enters lab H is) (subst (λ (ms : List Made). Puts now new said more ms (Err why)) (sym made) puts) in
-      let first : Puts old new [] more (sent_in w lab H (take (i + 1) sends)).made (Err why) = subst (λ (y : Sendings). Puts old new [] more y.made (Err why)) (sym (more_in w lab H sends i x at)) both in
-      subst (λ (y : Sendings). Puts old new [] more y.made (Err why)) (whole_in w lab H sends (i + 1))
-      (puts_stop (sent_in w lab H (take (i + 1) sends)).made _ old new new [] more more why first)
+      let made = next_made w lab H the.nats the.nats' (take i sends) x the.src (it_crosses the.nats the.nats' the.src crosses) (so.knows lab H is) in
+      let both : Puts old the.new [] the.more (front.made ++ last.made) (Err why) =
+      puts_then front.made last.made old the.now the.new [] the.said the.more (Err why) (so.enters lab H is) (subst (λ (ms : List Made). Puts the.now the.new the.said the.more ms (Err why)) (sym made) puts) in
+      let first : Puts old the.new [] the.more (sent_in w lab H (take (i + 1) sends)).made (Err why) = subst (λ (y : Sendings). Puts old the.new [] the.more y.made (Err why)) (sym (more_in w lab H sends i x at)) both in
+      subst (λ (y : Sendings). Puts old the.new [] the.more y.made (Err why)) (whole_in w lab H sends (i + 1))
+      (puts_stop (sent_in w lab H (take (i + 1) sends)).made _ old the.new the.new [] the.more the.more why first)
 
 -- where something is sent, something is made
 pub starves_through : (w : Through) (sends : List Send) (i : ℕ) (x : Send) → slice_get sends i ≡ Some x → (lab : Lab) (H : List Full) → (sent_in w lab H sends).made ≢ []

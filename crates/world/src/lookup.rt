@@ -105,6 +105,7 @@ impl<'a> Lookup<'a> {
         ensures there { IfSome result (IsThere self.entry.topology.now) }
         ensures route { IfSome result (λ (told : Route). (bytes : List ℕ) → IsRouteOf self.entry (udp src dst bytes) told) }
     {
+        // for the proof: its rules
         let _rules = self.topology.clients();
         let node = self.topology.node(usize::from(number))?;
         let Node::Client(client) = node else {

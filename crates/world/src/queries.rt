@@ -1,8 +1,10 @@
 //! What is asked of a world, and changes nothing of it.
-ghost use Rattle.std.specs.Prelude.{◌≡◌, ◌≤◌, List, ℕ, option_map, slice_get, IfSome};
+ghost use Rattle.std.specs.Prelude.{◌≡◌, ◌≤◌, ◌<◌, List, ℕ, option_map, slice_get, IfSome};
+ghost use Rattle.td_base.specs.declared.millis.TheConstants.{CLOCK_END_MS};
 ghost use Rattle.topology.specs.Topology.{node_at};
 ghost use Rattle.history.specs.Full.{Full, udp};
 ghost use Rattle.legal.specs.Lab.{Draws};
+ghost use Rattle.legal.specs.Past.{now};
 ghost use Rattle.legal.specs.Emit.{route};
 ghost use Rattle.lab_nodes.specs.PlayedNode.{row_of, IsReady};
 ghost use Rattle.world.specs.Route.{by_route, IsThere};
@@ -37,7 +39,11 @@ impl<'a> World<'a> {
     /// The moment of the last record.
     pub fn moment(&self) -> Millis
         /// See `World::topology`.
-        ensures { result.0 ≡ self.now.moment }
+        ensures value { result.0 ≡ self.now.moment }
+        /// The moment of a world is that of each history that it stands for, and one of a clock.
+        ensures kept { (d : Draws) (H : List Full) → StandsFor d self.now H → result.0 ≡ now H }
+        /// See `kept`.
+        ensures early { result.0 < CLOCK_END_MS }
     {
         self.moment
     }

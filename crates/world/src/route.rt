@@ -54,6 +54,7 @@ fn is_native(topology: &Topology, number: u16, ip: Ip6) -> bool
         → is_packet bytes ≡ true → (fields_in bytes).dst ≡ ip
         → by_route topology.now (reached number) ≡ route (lab_on d topology.now chain) H m (six None bytes) }
 {
+    // for the proof: its rules
     let _rules = topology.clients();
     let Some(node) = topology.node(usize::from(number)) else {
         return false;

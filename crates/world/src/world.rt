@@ -127,6 +127,7 @@ impl<'a> World<'a> {
         /// See `World::new`: `topology`.
         ensures goes_on { IfOk result (λ w. w.stopped ≡ None) }
     {
+        // for the proof: its rules
         let _rules = topology.clients();
         let nodes = Nodes::new(*room.allocator(), topology, seed)?;
         let wire = Wire::in_room(room)?;

@@ -1,6 +1,6 @@
 use Rattle.world.proofs.Words.{AreNatsAmid, Bool, ChainsState, Send, TopologyState, ap, crossing_unless, err_from_is_err_and, is_at_place, is_nat, node_at, source_or_loss, subst, sym, take, true, way_out, ◌≡◌}
 use Rattle.world.proofs.Amid.{amid_whole, stops_amid}
-use Rattle.world.proofs.Through.{Through, Crosses, sent_in, none_through, one_through, stops_through, starves_through, same_twice}
+use Rattle.world.proofs.Through.{Through, Crosses, SendPassed, SendAt, sent_in, none_through, one_through, stops_through, starves_through, same_twice}
 use Rattle.world.proofs.sender.put_through.Goals as goal
 
 pub loop-i-init : goal.loop-i-init
@@ -22,8 +22,17 @@ loop-i-preserved c =
     let crosses : Crosses w (is_at_place c.loop-i.i w.fails) c.loop-i.nats c.cross_unless.new.nats x.to src =
     subst (λ (b : Bool). Crosses w b c.loop-i.nats c.cross_unless.new.nats x.to src) c.is_failing-failing.ensures
     (record { crosses = c.in_ok-egress.ensures.crosses; same = c.cross_unless.ensures.same; clock = c.cross_unless.ensures.clock }) in
-    one_through w c.args.wire.now c.args.nats.now c.args.step.now.sends c.loop-i.i x c.send.ensures.place c.loop-i.wire c.send-in-loop-i.new.self
-    c.loop-i.nats c.cross_unless.new.nats c.loop-i.marks c.send-in-loop-i.new.marks src c.loop-i.invariant crosses
+    let next : SendAt c.args.step.now.sends c.loop-i.i = record { x = x; at = c.send.ensures.place } in
+    let the : SendPassed = record {
+      now = c.loop-i.wire;
+      new = c.send-in-loop-i.new.self;
+      nats = c.loop-i.nats;
+      nats' = c.cross_unless.new.nats;
+      said = c.loop-i.marks;
+      more = c.send-in-loop-i.new.marks;
+      src = src;
+    } in
+    one_through w c.args.wire.now c.args.nats.now c.args.step.now.sends c.loop-i.i next the c.loop-i.invariant crosses
     (c.in_ok-send.ensures.puts x.side)
 
 pub returns-in_err-send-clause-puts : goal.returns-in_err-send-clause-puts
@@ -35,8 +44,17 @@ returns-in_err-send-clause-puts c =
     let crosses : Crosses w (is_at_place c.loop-i.i w.fails) c.loop-i.nats c.cross_unless.new.nats x.to src =
     subst (λ (b : Bool). Crosses w b c.loop-i.nats c.cross_unless.new.nats x.to src) c.is_failing-failing.ensures
     (record { crosses = c.in_ok-egress.ensures.crosses; same = c.cross_unless.ensures.same; clock = c.cross_unless.ensures.clock }) in
-    rw (p.1, p.2) (stops_through w c.args.wire.now c.args.nats.now c.args.step.now.sends c.loop-i.i x c.send.ensures.place c.loop-i.wire c.send-in-loop-i.new.self
-    c.loop-i.nats c.cross_unless.new.nats c.loop-i.marks c.send-in-loop-i.new.marks src c.in_err-send.field-0.0 c.loop-i.invariant crosses
+    let next : SendAt c.args.step.now.sends c.loop-i.i = record { x = x; at = c.send.ensures.place } in
+    let the : SendPassed = record {
+      now = c.loop-i.wire;
+      new = c.send-in-loop-i.new.self;
+      nats = c.loop-i.nats;
+      nats' = c.cross_unless.new.nats;
+      said = c.loop-i.marks;
+      more = c.send-in-loop-i.new.marks;
+      src = src;
+    } in
+    rw (p.1, p.2) (stops_through w c.args.wire.now c.args.nats.now c.args.step.now.sends c.loop-i.i next the c.in_err-send.field-0.0 c.loop-i.invariant crosses
     (c.in_err-send.ensures.puts x.side))
 
 pub returns-in_err-send-clause-same : goal.returns-in_err-send-clause-same

@@ -22,7 +22,7 @@ returns-in_err-write_line g c =
       kept = λ t H r kept news. rw p.1 tt;
       written = λ t H r kept news.
           let same = c.as_slice.ensures.value ∙ c.line.ensures ∙ heard_line t H r self.topology.now self.sums c.args.said.now kept.0 kept.1 news.is in
-          rw p.1 (Writing-line _ _ _ _ _ same (not_wrote _ _ _ _ p.0 c.in_err-write_line.ensures));
+          rw (p.1, p.2) (Writing-line _ _ _ _ _ same (not_wrote _ _ _ _ _ c.in_err-write_line.ensures));
     }
 
 pub returns : goal.returns
