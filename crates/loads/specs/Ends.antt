@@ -10,22 +10,21 @@ use Rattle.topology.specs.declared.node.Node.{Node}
 use Rattle.topology.specs.Topology.{nodes}
 use Rattle.history.specs.Full.{Full}
 use Rattle.legal.specs.Past.{now, was_delivered}
-use Rattle.loads.specs.Numbered.{numbered_mentions, waiting_for, HeldRecord, held_for}
-use Rattle.loads.specs.Loads.{Load, packet, reply_to, Loads, load_at, is_handing_in, loads}
-use Rattle.loads.specs.Sayings.{Way, arrives, Saying, sayings_of}
-
--- *end*, of a load: where it is after a history, by the first of these that holds.
-pub data End : Type 0 where
-  arrived : (record_number : ℕ) → End  -- first in this record
-  waits_at : (node : ℕ) → End
-  held_at : (node : ℕ) → End
-  on_wire : (entry : ℕ) → End
-  was_lost : (record_number : ℕ) → End  -- this record was the last that said something of it
+use Rattle.loads.specs.declared.load.Load.{Load}
+use Rattle.loads.specs.declared.load.Load.TheVariants.{Packet, ReplyTo}
+use Rattle.loads.specs.declared.saying.Saying.{Saying}
+use Rattle.loads.specs.declared.way.Way.{Way}
+use Rattle.loads.specs.declared.way.Way.TheVariants.{Arrives}
+use Rattle.loads.specs.declared.end.End.{End}
+use Rattle.loads.specs.declared.end.End.TheVariants.{Arrived, WaitsAt, HeldAt, OnWire, Lost}
+use Rattle.loads.specs.Numbered.{numbered_mentions, waiting_records, HeldRecord, held_for}
+use Rattle.loads.specs.Loads.{Loads, load_at, is_handing_in, loads}
+use Rattle.loads.specs.Sayings.{sayings_of}
 
 -- Both are the same load.
 abbrev pub same_load : Load → Load → Bool
-same_load (packet k) (packet i) = k == i
-same_load (reply_to k) (reply_to i) = k == i
+same_load (Packet k) (Packet i) = k == i
+same_load (ReplyTo k) (ReplyTo i) = k == i
 same_load _ _ = false
 
 -- This is that load.
@@ -56,7 +55,7 @@ is_said_of l s = same_load l s.saying.load
 
 -- By this it arrives.
 abbrev pub is_arrival : Way → Bool
-is_arrival arrives = true
+is_arrival Arrives = true
 is_arrival _ = false
 
 -- By this saying the load arrives.
@@ -80,7 +79,7 @@ carries ls l i = is_load l (load_at ls.records i)
 
 -- A packet with this load waits for a peer that is listed at m, by these mentions.
 abbrev pub waits_among : Loads → Load → List Mention → ℕ → Bool
-waits_among ls l j m = list_any (λ (p : Ip6). list_any (carries ls l) (waiting_for j m p)) (listed j m)
+waits_among ls l j m = list_any (λ (p : Ip6). list_any (carries ls l) (waiting_records j m p)) (listed j m)
 
 -- A packet with this load is held of a peer that is listed at m, by these mentions.
 abbrev pub is_held_among : Loads → Load → List Mention → ℕ → Bool
@@ -108,13 +107,13 @@ open_entry H l i (x ∷ xs) = if is_load l x && not (was_delivered i H) then Som
 
 -- THE END
 
--- Where a load is after a history, if anything carried it. `ls` is what was carried, and `ts` what was said.
+-- *end*, of a load: where it is after a history, if anything carried it, by the first of these that holds. `ls` is what was carried, and `ts` what was said.
 abbrev pub end_of : TopologyState → List Full → Loads → List NumberedSaying → Load → Option End
-end_of t H ls ts l = option_or (option_map arrived (first_number (filter (is_arrival_of l) ts)))
-    (option_or (option_map waits_at (waiting_node t H ls l))
-    (option_or (option_map held_at (holding_node t H ls l))
-    (option_or (option_map on_wire (open_entry H l 0 ls.wire))
-    (option_map was_lost (last_number_of (filter (is_said_of l) ts))))))
+end_of t H ls ts l = option_or (option_map Arrived (first_number (filter (is_arrival_of l) ts)))
+    (option_or (option_map WaitsAt (waiting_node t H ls l))
+    (option_or (option_map HeldAt (holding_node t H ls l))
+    (option_or (option_map OnWire (open_entry H l 0 ls.wire))
+    (option_map Lost (last_number_of (filter (is_said_of l) ts))))))
 
 -- THE PACKETS
 
@@ -143,4 +142,4 @@ pub record Whereabouts : Type 0 where
 -- where each packet of a history is, in order
 abbrev pub whereabouts : TopologyState → List Full → Loads → List NumberedSaying → List Whereabouts
 whereabouts t H ls ts =
-    map (λ (p : NumberedPacket). record { packet_in = p; is_at = end_of t H ls ts (packet p.number); reply_is_at = end_of t H ls ts (reply_to p.number) }) (handed_in H)
+    map (λ (p : NumberedPacket). record { packet_in = p; is_at = end_of t H ls ts (Packet p.number); reply_is_at = end_of t H ls ts (ReplyTo p.number) }) (handed_in H)

@@ -4,22 +4,27 @@ use Rattle.teredo_node.specs.Fate.{fate_word}
 use Rattle.topology.specs.Rows.{TopologyState}
 use Rattle.history.specs.Full.{Full}
 use Rattle.report.specs.Lines.{node_text, mark_text}
-use Rattle.loads.specs.Loads.{Load, packet, reply_to, loads}
-use Rattle.loads.specs.Sayings.{Way, goes, waits, held, arrives, ends}
-use Rattle.loads.specs.Ends.{End, arrived, waits_at, held_at, on_wire, was_lost, NumberedSaying, all_sayings, Whereabouts, whereabouts}
+use Rattle.loads.specs.declared.load.Load.{Load}
+use Rattle.loads.specs.declared.load.Load.TheVariants.{Packet, ReplyTo}
+use Rattle.loads.specs.declared.way.Way.{Way}
+use Rattle.loads.specs.declared.way.Way.TheVariants.{Goes, Waits, Held, Arrives, Ends}
+use Rattle.loads.specs.declared.end.End.{End}
+use Rattle.loads.specs.declared.end.End.TheVariants.{Arrived, WaitsAt, HeldAt, OnWire, Lost}
+use Rattle.loads.specs.Loads.{loads}
+use Rattle.loads.specs.Ends.{NumberedSaying, all_sayings, Whereabouts, whereabouts}
 
 -- the text of a load
 abbrev pub load_text : Load → List ℕ
-load_text (packet k) = codes " " ++ decimal k
-load_text (reply_to k) = codes " " ++ (decimal k ++ codes " back")
+load_text (Packet k) = codes " " ++ decimal k
+load_text (ReplyTo k) = codes " " ++ (decimal k ++ codes " back")
 
 -- the text of what a record does with a load
 abbrev pub way_text : TopologyState → Way → List ℕ
-way_text t (goes mark) = codes " goes" ++ mark_text t mark
-way_text t waits = codes " waits"
-way_text t held = codes " held"
-way_text t arrives = codes " arrives"
-way_text t ends = codes " ends"
+way_text t (Goes mark) = codes " goes" ++ mark_text t mark
+way_text t Waits = codes " waits"
+way_text t Held = codes " held"
+way_text t Arrives = codes " arrives"
+way_text t Ends = codes " ends"
 
 -- I M NODE FATE: the number of a record, its moment, its node and its fate
 abbrev pub front_text : TopologyState → ℕ → Full → List ℕ
@@ -37,11 +42,11 @@ follow_lines t H = map (told_line t) (all_sayings t H)
 
 -- the text of where a load is
 abbrev pub end_text : TopologyState → End → List ℕ
-end_text t (arrived i) = codes " arrived " ++ decimal i
-end_text t (waits_at n) = codes " waits " ++ node_text t (Some n)
-end_text t (held_at n) = codes " held " ++ node_text t (Some n)
-end_text t (on_wire e) = codes " wire " ++ decimal e
-end_text t (was_lost i) = codes " lost " ++ decimal i
+end_text t (Arrived i) = codes " arrived " ++ decimal i
+end_text t (WaitsAt n) = codes " waits " ++ node_text t (Some n)
+end_text t (HeldAt n) = codes " held " ++ node_text t (Some n)
+end_text t (OnWire e) = codes " wire " ++ decimal e
+end_text t (Lost i) = codes " lost " ++ decimal i
 
 -- the same, or nothing where nothing carried the load
 abbrev pub end_text_if : TopologyState → Option End → List ℕ
@@ -64,27 +69,27 @@ count_ends test ws = count_by (λ (w : Whereabouts). test w.is_at) ws
 
 -- The packet arrived.
 abbrev pub has_arrived : Option End → Bool
-has_arrived (Some (arrived i)) = true
+has_arrived (Some (Arrived i)) = true
 has_arrived _ = false
 
 -- The packet still waits.
 abbrev pub still_waits : Option End → Bool
-still_waits (Some (waits_at n)) = true
+still_waits (Some (WaitsAt n)) = true
 still_waits _ = false
 
 -- The packet is still held.
 abbrev pub is_still_held : Option End → Bool
-is_still_held (Some (held_at n)) = true
+is_still_held (Some (HeldAt n)) = true
 is_still_held _ = false
 
 -- The packet is still on the wire.
 abbrev pub is_still_on_wire : Option End → Bool
-is_still_on_wire (Some (on_wire e)) = true
+is_still_on_wire (Some (OnWire e)) = true
 is_still_on_wire _ = false
 
 -- The packet was lost.
 abbrev pub has_been_lost : Option End → Bool
-has_been_lost (Some (was_lost i)) = true
+has_been_lost (Some (Lost i)) = true
 has_been_lost _ = false
 
 -- the last line: total packets P arrived A waits W held H wire U lost L

@@ -13,19 +13,17 @@ use Rattle.events.specs.declared.verb.Verb.TheVariants as verb
 use Rattle.history.specs.declared.act.Act.{Act}
 use Rattle.history.specs.declared.act.Act.TheVariants as act
 use Rattle.history.specs.Full.{Made, sent, lost, Full}
-use Rattle.loads.specs.Numbered.{numbered_mentions, waiting_for}
-
--- *load*: a packet that a host handed in, by its number, or the echo reply that a native host makes of it.
-pub data Load : Type 0 where
-  packet : ℕ → Load
-  reply_to : ℕ → Load
+use Rattle.loads.specs.declared.load.Load.{Load}
+use Rattle.loads.specs.declared.load.Load.TheVariants.{Packet, ReplyTo}
+use Rattle.loads.specs.Numbered.{numbered_mentions, waiting_records}
 
 -- the load of an answer: to a packet it is the reply to it, and to a reply it is none
 abbrev pub answer_to : Option Load → Option Load
 answer_to None = None
-answer_to (Some (packet k)) = Some (reply_to k)
-answer_to (Some (reply_to k)) = None
+answer_to (Some (Packet k)) = Some (ReplyTo k)
+answer_to (Some (ReplyTo k)) = None
 
+-- *load*: a packet that a host handed in, by its number, or the echo reply that a native host makes of it.
 -- what was carried until now
 pub record Loads : Type 0 where
   pub packets : ℕ  -- how many packets hosts handed in
@@ -47,7 +45,7 @@ is_handing_in _ = false
 
 -- what a record is given: the next packet, where a host hands one in, or else what the entry carries that it delivers
 abbrev pub load_given : Loads → Full → Option Load
-load_given l r = if is_handing_in r.act then Some (packet l.packets) else option_and_then (load_at l.wire) r.delivered
+load_given l r = if is_handing_in r.act then Some (Packet l.packets) else option_and_then (load_at l.wire) r.delivered
 
 -- WHAT IT RELEASES
 
@@ -80,7 +78,7 @@ mentions_at t H (Some n) = mentions_if H n (node_at t n)
 
 -- the numbers of the records whose packets waited for the peer of the record after H, and are sent to it by that
 abbrev pub released_records : TopologyState → List Full → Full → List ℕ
-released_records t H r = if releases_all r.fate then waiting_for (mentions_at t H r.node) r.moment (entry_peer r.entry) else []
+released_records t H r = if releases_all r.fate then waiting_records (mentions_at t H r.node) r.moment (entry_peer r.entry) else []
 
 -- WHAT CARRIES
 
@@ -109,8 +107,8 @@ entry_loads (sent x ∷ made) loads = load_at loads 0 ∷ entry_loads made (drop
 entry_loads (lost why dst bytes ∷ made) loads = entry_loads made (drop 1 loads)
 
 -- what was carried, with the record after H
-abbrev pub with_record : TopologyState → List Full → Full → Loads → Loads
-with_record t H r l = record {
+abbrev pub loads_after : TopologyState → List Full → Full → Loads → Loads
+loads_after t H r l = record {
   packets = if is_handing_in r.act then l.packets + 1 else l.packets;
   records = l.records ++ load_given l r ∷ [];
   wire = l.wire ++ entry_loads r.made (made_loads t H l r);
@@ -119,4 +117,4 @@ with_record t H r l = record {
 -- *carried*, of a load: what the records and the wire of a history carry.
 abbrev pub loads : TopologyState → List Full → Loads
 loads t [] = record { packets = 0; records = []; wire = [] }
-loads t (r ∷ H) = with_record t H r (loads t H)
+loads t (r ∷ H) = loads_after t H r (loads t H)

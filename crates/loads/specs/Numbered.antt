@@ -40,8 +40,8 @@ abbrev pub number_in : List ℕ → ℕ
 number_in x = get_or x 0 0
 
 -- the numbers of the records whose packets wait for p at m, in their order
-abbrev pub waiting_for : List Mention → ℕ → Ip6 → List ℕ
-waiting_for j m p = map number_in (known j m p).waiting
+abbrev pub waiting_records : List Mention → ℕ → Ip6 → List ℕ
+waiting_records j m p = map number_in (known j m p).waiting
 
 -- a packet that is held: the number of its record, and the endpoint that it came from
 pub record HeldRecord : Type 0 where

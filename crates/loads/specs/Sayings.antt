@@ -15,21 +15,12 @@ use Rattle.history.specs.Full.{Full}
 use Rattle.history.specs.Records.{marks_of}
 use Rattle.legal.specs.Past.{is_restart}
 use Rattle.states.specs.Kept.{listed_in_order}
-use Rattle.loads.specs.Numbered.{waiting_for, HeldRecord, held_for}
-use Rattle.loads.specs.Loads.{Load, answer_to, Loads, load_at, load_given, entry_peer, mentions_at, released_records}
-
--- what a record does with a load
-pub data Way : Type 0 where
-  goes : Mark → Way  -- a send or entry carries it
-  waits : Way
-  held : Way
-  arrives : Way  -- at a client's host, or at a native host
-  ends : Way
-
--- what a record says of a load
-pub record Saying : Type 0 where
-  pub load : Load
-  pub way : Way
+use Rattle.loads.specs.declared.load.Load.{Load}
+use Rattle.loads.specs.declared.saying.Saying.{Saying}
+use Rattle.loads.specs.declared.way.Way.{Way}
+use Rattle.loads.specs.declared.way.Way.TheVariants.{Goes, Waits, Held, Arrives, Ends}
+use Rattle.loads.specs.Numbered.{waiting_records, HeldRecord, held_for}
+use Rattle.loads.specs.Loads.{answer_to, Loads, load_at, load_given, entry_peer, mentions_at, released_records}
 
 -- what is said of a load; of what carries nothing, nothing is said
 abbrev pub saying : Way → Option Load → List Saying
@@ -40,8 +31,8 @@ saying w (Some l) = record { load = l; way = w } ∷ []
 
 -- it goes by this send or entry, or ends where there is none
 abbrev pub goes_by : Option Mark → Way
-goes_by None = ends
-goes_by (Some m) = goes m
+goes_by None = Ends
+goes_by (Some m) = Goes m
 
 -- the marks of a record's sends and entries, in order
 abbrev pub marks_by : Full → List Mark
@@ -49,36 +40,36 @@ marks_by r = marks_of r.first r.made
 
 -- it arrives where it was handed over, and else it ends
 abbrev pub arrives_if : Bool → Way
-arrives_if true = arrives
-arrives_if false = ends
+arrives_if true = Arrives
+arrives_if false = Ends
 
 -- What becomes of the load that a record was given, by the record's fate: whether it goes on, waits (RFC 4380, sections 5.2.4 and
 -- 5.4.1), is held (section 5.2.3, rule 6), or arrives. `mark` is the send or entry that may carry it, and `handed` says whether
 -- the packet was handed to a host.
-abbrev pub way_of : Fate → Option Mark → (handed : Bool) → Way
-way_of fate.Sent mark handed = goes_by mark
-way_of fate.SentCone mark handed = goes_by mark
-way_of fate.SentSix mark handed = goes_by mark
-way_of fate.Forward mark handed = goes_by mark
-way_of fate.ForwardOrigin mark handed = goes_by mark
-way_of fate.Six mark handed = goes_by mark
-way_of fate.FromClient mark handed = goes_by mark
-way_of fate.Queued mark handed = waits
-way_of fate.HeldTest mark handed = held
-way_of fate.Held mark handed = held
-way_of fate.Kept mark handed = arrives
-way_of fate.Echoed mark handed = arrives
-way_of _ mark handed = arrives_if handed
+abbrev pub way_by_fate : Fate → Option Mark → (handed : Bool) → Way
+way_by_fate fate.Sent mark handed = goes_by mark
+way_by_fate fate.SentCone mark handed = goes_by mark
+way_by_fate fate.SentSix mark handed = goes_by mark
+way_by_fate fate.Forward mark handed = goes_by mark
+way_by_fate fate.ForwardOrigin mark handed = goes_by mark
+way_by_fate fate.Six mark handed = goes_by mark
+way_by_fate fate.FromClient mark handed = goes_by mark
+way_by_fate fate.Queued mark handed = Waits
+way_by_fate fate.HeldTest mark handed = Held
+way_by_fate fate.Held mark handed = Held
+way_by_fate fate.Kept mark handed = Arrives
+way_by_fate fate.Echoed mark handed = Arrives
+way_by_fate _ mark handed = arrives_if handed
 
 -- By this fate a native host makes a reply.
-abbrev pub answers : Fate → Bool
-answers fate.Echoed = true
-answers _ = false
+abbrev pub makes_reply : Fate → Bool
+makes_reply fate.Echoed = true
+makes_reply _ = false
 
 -- what a record says of the load that it was given, and of the reply to that
 abbrev pub said_of_given : Full → Option Load → Option Mark → List Saying
-said_of_given r l mark = saying (way_of r.fate mark (is_some r.handed)) l
-    ++ (if answers r.fate then saying (goes_by mark) (answer_to l) else [])
+said_of_given r l mark = saying (way_by_fate r.fate mark (is_some r.handed)) l
+    ++ (if makes_reply r.fate then saying (goes_by mark) (answer_to l) else [])
 
 -- WHAT WAITED
 
@@ -86,11 +77,11 @@ said_of_given r l mark = saying (way_of r.fate mark (is_some r.handed)) l
 abbrev pub said_of_released : List Mark → List (Option Load) → List Saying
 said_of_released marks [] = []
 said_of_released [] (l ∷ ls) = []
-said_of_released (m ∷ ms) (l ∷ ls) = saying (goes m) l ++ said_of_released ms ls
+said_of_released (m ∷ ms) (l ∷ ls) = saying (Goes m) l ++ said_of_released ms ls
 
 -- of what is dropped: that the packets of these records end
 abbrev pub said_to_end : Loads → List ℕ → List Saying
-said_to_end l numbers = flat_map (λ (i : ℕ). saying ends (load_at l.records i)) numbers
+said_to_end l numbers = flat_map (λ (i : ℕ). saying Ends (load_at l.records i)) numbers
 
 -- By this fate the packets that wait for the record's peer are dropped (RFC 4380, section 5.2.6).
 abbrev pub gives_up : Fate → Bool
@@ -112,7 +103,7 @@ dropped_peers j r = if drops_peers r then listed_in_order j r.moment else []
 
 -- the numbers of the records whose packets wait, and are dropped by a record
 abbrev pub dropped_records : List Mention → Full → List ℕ
-dropped_records j r = if gives_up r.fate then waiting_for j r.moment (entry_peer r.entry) else flat_map (waiting_for j r.moment) (dropped_peers j r)
+dropped_records j r = if gives_up r.fate then waiting_records j r.moment (entry_peer r.entry) else flat_map (waiting_records j r.moment) (dropped_peers j r)
 
 -- WHAT WAS HELD
 
@@ -128,14 +119,14 @@ abbrev pub ended_records : List Mention → Full → List HeldRecord
 ended_records j r = if ends_holding r.fate then held_for j r.moment (entry_peer r.entry) else flat_map (held_for j r.moment) (dropped_peers j r)
 
 -- where the datagram of an entry came from, if it has one
-abbrev pub came_from : Option Entry → Option Ep
-came_from None = None
-came_from (Some e) = source_of e.input
+abbrev pub source_of_entry : Option Entry → Option Ep
+source_of_entry None = None
+source_of_entry (Some e) = source_of e.input
 
 -- The datagram came from this endpoint.
-abbrev pub is_from : Option Ep → Ep → Bool
-is_from None ep = false
-is_from (Some from) ep = same_ep ep from
+abbrev pub is_same_source : Option Ep → Ep → Bool
+is_same_source None ep = false
+is_same_source (Some from) ep = same_ep ep from
 
 -- By this fate packets that were held are handed over: rule 2 (RFC 4380, section 5.2.3).
 abbrev pub hands_over_held : Fate → Bool
@@ -144,7 +135,7 @@ hands_over_held _ = false
 
 -- A packet that was held is handed over now: by rule 2, where it came from where the record's datagram did.
 abbrev pub is_late : Full → HeldRecord → Bool
-is_late r h = hands_over_held r.fate && is_from (came_from r.entry) h.from
+is_late r h = hands_over_held r.fate && is_same_source (source_of_entry r.entry) h.from
 
 -- of what was held: that each of these packets arrives, where it is handed over now, or ends
 abbrev pub said_of_ended : Loads → Full → List HeldRecord → List Saying

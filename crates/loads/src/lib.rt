@@ -12,12 +12,14 @@
 //!
 //! # What it does not know
 //!
-//! How any of it is found or written: definitions stand here, and a law of them. No bytes of a packet are looked at.
+//! How any of it is found or written: definitions stand here, their types, and a law of them. No bytes of a packet are looked
+//! at.
 //!
 //! # Parts
 //!
 //! | what is said | in |
 //! |---|---|
+//! | `Load`, `Way`, `Saying`, `End` | `load`, `way`, `saying`, `end` |
 //! | what waits and is held, by the numbers of records | `specs/Numbered.antt` |
 //! | who carries what | `specs/Loads.antt` |
 //! | what a record does with it | `specs/Sayings.antt` |
@@ -36,6 +38,14 @@
 //! and `worked_lines` computes the lines on worked scenarios. That what carries a packet holds its bytes is not said.
 #![tactic(auto)]
 
+mod end;
 mod laws;
+mod load;
+mod saying;
+mod way;
 
+pub use end::End;
 pub use laws::known_is_image;
+pub use load::Load;
+pub use saying::Saying;
+pub use way::Way;

@@ -39,7 +39,10 @@ pub const GONE_LEN: usize = 26;
 /// Appends a number.
 pub fn put_number(number: u64, out: &mut LineBuf)
     requires { length out.old + NUMBER_LEN ≤ LINE_LEN }
+    /// A number, a node's name and a mark are appended as they stand in a record's line.
+    /// Needs: that the most bytes of it have room.
     ensures text { out.new ≡ out.old ++ decimal number }
+    /// See `put_number`: `text`.
     ensures short { length out.new ≤ length out.old + NUMBER_LEN }
 {
     let _ = print_number(number, out);
@@ -106,7 +109,9 @@ pub fn put_act(act: Act, out: &mut LineBuf)
 /// Appends a node's name, or `-`.
 pub fn put_node(t: &Topology, node: Option<u16>, out: &mut LineBuf)
     requires { length out.old + NAME_LEN ≤ LINE_LEN }
+    /// See `put_number`: `text`.
     ensures text { out.new ≡ out.old ++ node_text t.now node }
+    /// See `put_number`: `text`.
     ensures short { length out.new ≤ length out.old + NAME_LEN }
 {
     let Some(node) = node else {

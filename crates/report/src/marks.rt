@@ -77,9 +77,11 @@ fn put_lost(why: Loss, dst: Ep, len: usize, out: &mut LineBuf)
 }
 
 /// Appends a mark.
-fn put_mark(t: &Topology, mark: &Mark, out: &mut LineBuf)
+pub fn put_mark(t: &Topology, mark: &Mark, out: &mut LineBuf)
     requires { length out.old + MARK_LEN ≤ LINE_LEN }
+    /// See `put_number`: `text`.
     ensures text { out.new ≡ out.old ++ mark_text t.now mark.now }
+    /// See `put_number`: `text`.
     ensures short { length out.new ≤ length out.old + MARK_LEN }
 {
     match *mark {

@@ -1,0 +1,12 @@
+mod Words
+pub mod Lists
+pub mod Keeping
+pub mod Known
+pub mod Numbers
+pub mod Asked
+pub mod Said
+pub mod Loops
+pub mod Steps
+pub mod Wires
+pub mod Stands
+pub mod Nodes
