@@ -1,1 +1,2 @@
 pub mod OwnFacts
+pub mod PeerFacts

@@ -7,6 +7,11 @@ use Rattle.legal.specs.Past.{armed}
 use Rattle.legal.specs.Emit.{by_way}
 use Rattle.states.specs.Marked.{PassedIsMarked}
 use Rattle.states.proofs.OnePassing.{passing_made, marks_tell, passed_is_made}
+pub use Rattle.states.proofs.LatestPeers.{latest_is_concerned}
+pub use Rattle.states.proofs.LastingNats.{nat_facts_last}
+pub use Rattle.states.proofs.LastingPeers.{peer_facts_last}
+pub use Rattle.states.proofs.WaysWalked.{passed_is_walked}
+pub use Rattle.states.proofs.PortsKept.{ways_keep_ports}
 
 pub passed_is_marked : PassedIsMarked
 passed_is_marked lab H r n c e act one =

@@ -1,11 +1,11 @@
 -- What a record concerned: its node, and each NAT that let something of it out.
-use Rattle.std.specs.Prelude.{ℕ, Bool, true, false, ◌||◌, if◌then◌else◌, is_some, List, [], ◌∷◌, ◌++◌, map, reverse, Option, Some, None, option_map, option_to_list}
+use Rattle.std.specs.Prelude.{ℕ, Bool, true, false, ◌||◌, List, [], ◌∷◌, ◌++◌, map, reverse, Option, Some, None, option_map, option_to_list}
 use Rattle.std.specs.List.{flat_map}
 use Rattle.td_base.specs.declared.ipv6.Ip6.{Ip6}
 use Rattle.teredo_node.specs.Journal.{Entry, Journal, is_changed}
 use Rattle.nat_kinds.specs.declared.settings.NatSettings.{NatSettings}
 use Rattle.nat_kinds.specs.declared.outgoing.Outward.{Outward}
-use Rattle.peer_list.specs.Mentions.{Bearing, Mention}
+use Rattle.peer_list.specs.Mentions.{Mention, peer_of_mention}
 use Rattle.client_rules.specs.Bearings.{mention, mentions}
 use Rattle.relay_rules.specs.Bearings.{relay_mention, relay_mentions}
 use Rattle.topology.specs.Rows.{TopologyState}
@@ -22,14 +22,6 @@ use Rattle.states.specs.Facts.{PeerFact, Fact, nothing, forgets, client_knows, r
 use Rattle.states.specs.Kept.{port_fact, lets_fact, peer_fact_of, client_fact, relay_fact, at_node}
 
 -- THE PEER
-
--- A mention with this bearing changes what is said of its peer.
-abbrev pub concerns_peer : Bearing → Bool
-concerns_peer b = b.touches || (is_some b.holds || b.gives_up)
-
--- the peer of a mention, where that changes what is said of the peer
-abbrev pub peer_of_mention : Mention → Option Ip6
-peer_of_mention m = if concerns_peer m.bearing then m.peer else None
 
 -- What is known of the peer of a node's latest entry, where that changes it. `said` reads a mention off an entry, and `knows`
 -- makes a fact of what is known.

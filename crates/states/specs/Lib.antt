@@ -2,5 +2,8 @@ pub mod Orders
 pub mod Facts
 pub mod Kept
 pub mod Concerned
+pub mod PeerFates
 pub mod StateLines
 pub mod Marked
+pub mod Walked
+pub mod Lasting

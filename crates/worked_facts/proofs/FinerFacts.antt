@@ -1,4 +1,4 @@
--- The finer words of the laboratory of ReachFacts, computed: what was `known` is `within 6`, and all else is as before.
+-- The finer words of the laboratory of ReachFacts, computed: they are the words there.
 use Rattle.worked_facts.proofs.Words.{Finer, Full, Lab, List, [], away, barred, filter_map, finer_of, finer_relayed, finer_two, flat_map, is_heard_once_sent, is_led_to, is_of_server, off, one_nat, playing, refl, speaks_to, speaks_to_both, within, ℕ, ◌∷◌, ◌≡◌}
 use Rattle.worked_facts.proofs.ReachFacts.{behind_third, apart, played, waiting}
 

@@ -1,6 +1,6 @@
 -- The two packets that come though the word is shut, computed: the test that the record of a packet drew itself, where the word is `barred`;
 -- and one that the client holds, byte for byte, where it is `full` by the four packets that it holds.
-use Rattle.worked_facts.proofs.Words.{Bool, BringsWithin, Contains, Entry, Finer, Full, GoesBetween, Ip6, IsOwnTest, List, None, Option, Scenario, Some, [], ap, arith, asks_at, bearing_of, client, drop, false, false≢true, finer_back_row, finer_of, finer_relayed, from_six, given, held_from, holds_most, inr, is_heard_once_sent, is_led_to, is_of_server, is_settled, is_some, known_by, lit<, must_ask, native, option_map, play, playing, reach_of, refl, slice_get, some_words, speaks_to, speaks_to_both, subst, sym, take, test_bytes, true, unwrap_or, ℕ, ◌*◌, ◌+◌, ◌^◌, ◌∙◌, ◌∷◌, ◌≡◌}
+use Rattle.worked_facts.proofs.Words.{Bool, BringsWithin, ComesWithHeld, Contains, Entry, Finer, Full, GoesBetween, Ip6, IsOwnTest, List, None, Option, Reach, Scenario, Some, [], ap, arith, asks_at, bearing_of, client, drop, false, false≢true, finer_back_row, finer_of, finer_relayed, from_native_row, from_six, given, held_from, holds_most, inr, is_heard_once_sent, is_led_to, is_of_server, is_settled, is_some, known_by, lit<, must_ask, native, option_map, play, playing, reach_of, refl, slice_get, some_words, speaks_to, speaks_to_both, subst, sym, take, test_bytes, true, unwrap_or, ℕ, ◌*◌, ◌+◌, ◌^◌, ◌∙◌, ◌∷◌, ◌≡◌}
 use Rattle.nat_kinds.specs.declared.kind.NatKind.TheVariants as kind
 use Rattle.teredo_node.specs.declared.fate.Fate.TheVariants as fate
 use Rattle.events.specs.declared.event.Event.TheVariants as event
@@ -38,7 +38,7 @@ pub guessed-seen : next_seen (lab kind.Port) 2 4 3 guessed_history ≡ Some (rec
   left = [];
   fates = fate.Queued ∷ fate.Echoed ∷ fate.Six ∷ [];
 })
-unfolding playing reach_of relayed is_settled is_led_to
+unfolding playing reach_of relayed is_settled is_led_to speaks_to
 guessed-seen = refl
 
 pub guessed-goes : GoesBetween a_own host_six own_x
@@ -106,7 +106,7 @@ pub held-seen : next_seen (lab kind.Cone) 4 2 6 held_history ≡ Some (record {
   left = [];
   fates = fate.Rule2 ∷ fate.Sent ∷ fate.Echoed ∷ fate.Six ∷ fate.SuspiciousTest ∷ fate.Sent ∷ [];
 })
-unfolding playing reach_of relayed is_settled is_led_to
+unfolding playing reach_of relayed is_settled is_led_to speaks_to
 held-seen = refl
 
 pub held-is-next : IsNextByWord (lab kind.Cone) held_history 6 4 2 (native host_row) (client client_row) to_cone_x word.Full
@@ -142,6 +142,27 @@ held-there = refl
 
 pub held-is-held : Contains (held_from relay_row.at (known_by (drop 7 held_history) 2 host_row.six).held) to_cone_x
 held-is-held = subst (λ (z : HeldThere). Contains z.held to_cone_x) (sym held-there) (0, lit< tt, refl)
+
+-- the word, were none held
+abbrev without_held : List Full → Reach
+without_held H = from_native_row (record (relayed (lab kind.Cone) H 2 client_row host_row relay_row) { holds_most = false })
+
+held-else : without_held (drop 7 held_history) ≡ word.Within6
+unfolding playing relayed is_settled is_led_to
+held-else = refl
+
+abbrev is_six : Reach → Bool
+is_six word.Within6 = true
+is_six _ = false
+
+-- so it is among what comes with those
+pub held-comes-with : ComesWithHeld (lab kind.Cone) (drop 7 held_history) 2 host_row client_row to_cone_x
+held-comes-with = record {
+  via = relay_row;
+  through = refl;
+  held = held-is-held;
+  alone = λ e. false≢true (ap is_six (sym e) ∙ ap is_six held-else);
+}
 
 pub held-brought : handed_over 0 held_history ≡ Some (record {
   node = Some 2;

@@ -1,5 +1,5 @@
 -- Who reaches whom in a worked laboratory, computed: with one NAT behind another and without, and after its relay was restarted.
-use Rattle.worked_facts.proofs.Words.{ClientNode, Event, Full, Lab, List, NatKind, NatNode, Some, TopologyState, [], codes, decimal, ep, false, ip, ip6, is_led_to, is_settled, lab_on, name1, name2, play_in, playing, reach_lines, reach_of, refl, some_words, true, two_clients, ℕ, ◌++◌, ◌+◌, ◌∷◌, ◌≡◌}
+use Rattle.worked_facts.proofs.Words.{ClientNode, Event, Full, Lab, List, NatKind, NatNode, Some, TopologyState, [], codes, decimal, ep, false, ip, ip6, is_led_to, is_settled, lab_on, name1, name2, play_in, playing, reach_lines, reach_of, refl, some_words, speaks_to, true, two_clients, ℕ, ◌++◌, ◌+◌, ◌∷◌, ◌≡◌}
 use Rattle.nat_kinds.specs.declared.kind.NatKind.TheVariants as kind
 use Rattle.events.specs.declared.event.Event.TheVariants as event
 use Rattle.events.specs.declared.target.Target.TheVariants as target
@@ -70,7 +70,7 @@ pub with_chain : reach_lines behind_third (played behind_third waiting)
     ∷ codes "b c within 4\n"
     ∷ codes "b d away\n"
     ∷ codes "b h1 within 6\n"
-    ∷ codes "c a known\n"
+    ∷ codes "c a within 6\n"
     ∷ codes "c b within 1\n"
     ∷ codes "c d away\n"
     ∷ codes "c h1 within 9\n"
@@ -82,9 +82,9 @@ pub with_chain : reach_lines behind_third (played behind_third waiting)
     ∷ codes "h1 b within 6\n"
     ∷ codes "h1 c within 9\n"
     ∷ codes "h1 d away\n"
-    ∷ total_text 20 8 11 1
+    ∷ total_text 20 9 11 0
     ∷ []
-unfolding playing reach_of two_clients relayed is_settled is_led_to
+unfolding playing reach_of two_clients relayed is_settled is_led_to speaks_to
 with_chain = refl
 
 -- where the relay was restarted instead it knows nobody: it drops what the first client sends to it at once, and it would have to ask
@@ -115,14 +115,14 @@ pub after_restart : reach_lines behind_third (played behind_third forgetful)
     ∷ codes "h1 d away\n"
     ∷ total_text 20 8 12 0
     ∷ []
-unfolding playing reach_of two_clients relayed is_settled is_led_to
+unfolding playing reach_of two_clients relayed is_settled is_led_to speaks_to
 after_restart = refl
 
 -- where no NAT is behind another one the first two clients reach each other
 pub without_chain : reach_of apart (played apart waiting) 5 6 ≡ Some word.Within1
-unfolding playing reach_of two_clients relayed is_settled is_led_to
+unfolding playing reach_of two_clients relayed is_settled is_led_to speaks_to
 without_chain = refl
 
 pub without_chain_back : reach_of apart (played apart waiting) 6 5 ≡ Some word.Within4
-unfolding playing reach_of two_clients relayed is_settled is_led_to
+unfolding playing reach_of two_clients relayed is_settled is_led_to speaks_to
 without_chain_back = refl

@@ -1,6 +1,6 @@
 -- What a word within 2 and within 5 promises between a client and a native host, of which each knows the other: its premise, and that the
 -- packet comes by so many deliveries.
-use Rattle.worked_facts.proofs.Words.{BringsWithin, Event, Full, List, Scenario, Some, [], arith, client, from_six, given, inl, is_led_to, is_settled, native, play, playing, reach_of, refl, some_words, take, true, ◌∷◌, ◌≡◌}
+use Rattle.worked_facts.proofs.Words.{BringsWithin, Event, Full, List, Scenario, Some, [], arith, client, from_six, given, inl, is_led_to, is_settled, native, play, playing, reach_of, refl, some_words, speaks_to, take, true, ◌∷◌, ◌≡◌}
 use Rattle.nat_kinds.specs.declared.kind.NatKind.TheVariants as kind
 use Rattle.teredo_node.specs.declared.fate.Fate.TheVariants as fate
 use Rattle.events.specs.declared.event.Event.TheVariants as event
@@ -37,7 +37,7 @@ pub there-seen : next_seen (lab kind.Cone) 2 4 2 there_history ≡ Some (record 
   left = [];
   fates = fate.Kept ∷ fate.FromClient ∷ [];
 })
-unfolding playing reach_of relayed is_settled is_led_to
+unfolding playing reach_of relayed is_settled is_led_to speaks_to
 there-seen = refl
 
 pub there-is-next : IsNextByWord (lab kind.Cone) there_history 2 2 4 (client client_row) (native host_row) from_cone_x word.Within2
@@ -66,7 +66,7 @@ pub back-seen : next_seen (lab kind.Cone) 4 2 2 back_history ≡ Some (record {
   left = [];
   fates = fate.Rule1 ∷ fate.Sent ∷ [];
 })
-unfolding playing reach_of relayed is_settled is_led_to
+unfolding playing reach_of relayed is_settled is_led_to speaks_to
 back-seen = refl
 
 pub back-is-next : IsNextByWord (lab kind.Cone) back_history 2 4 2 (native host_row) (client client_row) to_cone_x word.Within2
@@ -99,7 +99,7 @@ pub still-seen : next_seen (lab kind.Cone) 4 2 2 still_history ≡ Some (record 
   left = [];
   fates = fate.Rule1 ∷ fate.SentCone ∷ [];
 })
-unfolding playing reach_of relayed is_settled is_led_to
+unfolding playing reach_of relayed is_settled is_led_to speaks_to
 still-seen = refl
 
 pub still-is-next : IsNextByWord (lab kind.Cone) still_history 2 4 2 (native host_row) (client client_row) to_cone_x word.Within2
@@ -132,7 +132,7 @@ pub anew-seen : next_seen (lab kind.Port) 4 2 5 anew_history ≡ Some (record {
   left = [];
   fates = fate.Rule1 ∷ fate.FromClientBubble ∷ fate.Indirect ∷ fate.ForwardOrigin ∷ fate.Queued ∷ [];
 })
-unfolding playing reach_of relayed is_settled is_led_to
+unfolding playing reach_of relayed is_settled is_led_to speaks_to
 anew-seen = refl
 
 pub anew-is-next : IsNextByWord (lab kind.Port) anew_history 5 4 2 (native host_row) (client client_row) to_port_x word.Within5

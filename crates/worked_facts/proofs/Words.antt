@@ -95,7 +95,8 @@ unfoldable pub use Rattle.theory_reaching.specs.FinerClients.{finer_two}
 pub use Rattle.theory_reaching.specs.FinerRelayed.{finer_back_row}
 unfoldable pub use Rattle.theory_reaching.specs.FinerRelayed.{finer_relayed}
 pub use Rattle.theory_reaching.specs.FinerWords.{Finer, away, barred, off, one_nat, within}
-pub use Rattle.theory_reaching.specs.Promises.{BringsWithin, IsNoReply, IsOwnTest, IsSentNext, IsShut}
+pub use Rattle.theory_reaching.specs.FromNative.{from_native_row}
+pub use Rattle.theory_reaching.specs.Promises.{BringsWithin, ComesWithHeld, IsNoReply, IsOwnTest, IsSentNext, IsShut}
 unfoldable pub use Rattle.theory_reaching.specs.Reach.{reach_of}
 pub use Rattle.theory_reaching.specs.ReachLines.{reach_lines}
 unfoldable pub use Rattle.theory_reaching.specs.Speaks.{is_heard_once_sent, is_of_server, speaks_to, speaks_to_both}

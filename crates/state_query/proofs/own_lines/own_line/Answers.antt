@@ -13,7 +13,7 @@ returns-in-Client-clause-line c = λ d H s.
     let there = sym c.in-Some.ensures.row ∙ ap (λ (p : PlayedNode). Some (row_of p)) c.in-Client.is in
     let kept = s.nodes.each n (played.Client c.in-Client.row c.in-Client.client) (sym c.in-Some.ensures.kept ∙ ap (λ (p : PlayedNode). Some p) c.in-Client.is) in
     let line = c.client_own_line.ensures (client_settings c.args.world.now.topology c.in-Client.row) (journal n H) (words (lab_in d c.args.world.now) n H) kept in
-    let told = rw (c.topology.ensures, c.moment.ensures) at line in
+    let told = rw (c.topology.ensures, c.moment.ensures.value) at line in
     rw there (refl, told)
 
 pub returns-in-Relay-clause-line : goal.returns-in-Relay-clause-line
@@ -22,5 +22,5 @@ returns-in-Relay-clause-line c = λ d H s.
     let there = sym c.in-Some.ensures.row ∙ ap (λ (p : PlayedNode). Some (row_of p)) c.in-Relay.is in
     let kept = s.nodes.each n (played.Relay c.in-Relay.row c.in-Relay.relay) (sym c.in-Some.ensures.kept ∙ ap (λ (p : PlayedNode). Some p) c.in-Relay.is) in
     let line = c.relay_own_line.ensures (relay_settings c.args.world.now.topology n c.in-Relay.row) (journal n H).entries kept in
-    let told = rw (c.topology-in-Relay.ensures, c.moment.ensures) at line in
+    let told = rw (c.topology-in-Relay.ensures, c.moment.ensures.value) at line in
     rw there (refl, told)

@@ -1,0 +1,3 @@
+pub mod StateAccount
+pub mod Writes
+pub mod KnownFacts
