@@ -65,7 +65,17 @@ module _ (i i' : SourceState) (o o' : SinkState) (asked : AuditWords) (file : Li
 
 -- ---- the last line comes behind those of the records
 
-module _ (i i' : SourceState) (o mid o' : SinkState) (asked : AuditWords) (file : List ℕ) (from : Opened 100663297 i i' file) where
+-- the source and the sink of a run, before it and after it, and the sink before its last line
+pub record Ending : Type 0 where
+  pub i : SourceState
+  pub i' : SourceState
+  pub o : SinkState
+  pub mid : SinkState
+  pub o' : SinkState
+
+module _ (the : Ending) (asked : AuditWords) (file : List ℕ) (from : Opened 100663297 the.i the.i' file) where
+  open the use {i, i', o, mid, o'}
+
   -- the file is a capture
   pub capture_ends : (rs : List Captured) (result : ℕ) → HasRecords i file rs → i'.faults ≡ i.faults → mid.faults ≡ o.faults → WritesLines o mid (lines_for asked rs)
       → LineEnds mid o' (tally_line (tally_of (said_for asked rs))) (tally_status (tally_of (said_for asked rs))) result → ExplainEnds i i' o o' asked file result
@@ -96,12 +106,14 @@ pub record IsRead (i : SourceState) (file bytes : List ℕ) : Type 0 where
   pub named : IfSome (i.stands_for file) (λ told. bytes ≡ told)
   pub short : length bytes ≤ 100663296
 
-module _ (i i' : SourceState) (o mid o' : SinkState) (asked : AuditWords) (file bytes : List ℕ) (from : Opened 100663297 i i' file) (found : IsRead i file bytes) (quiet : i'.faults ≡ i.faults) where
+module _ (the : Ending) (asked : AuditWords) (file bytes : List ℕ) (from : Opened 100663297 the.i the.i' file) (found : IsRead the.i file bytes) (quiet : the.i'.faults ≡ the.i.faults) where
+  open the use {i, i', o, mid, o'}
+
   pub told_ends : (tally : Tally) (result : ℕ) → TellsAll o mid asked bytes tally → LineEnds mid o' (tally_line tally) (tally_status tally) result → ExplainEnds i i' o o' asked file result
   told_ends tally result all line =
       let rs = all.records in
       let is : HasRecords i file rs = record { bytes = bytes; named = found.named; is = record { short = found.short; head = all.head; capture = all.capture } } in
-      capture_ends i i' o mid o' asked file from rs result is quiet all.same all.lines (subst (λ (t : Tally). LineEnds mid o' (tally_line t) (tally_status t) result) all.tally_is line)
+      capture_ends the asked file from rs result is quiet all.same all.lines (subst (λ (t : Tally). LineEnds mid o' (tally_line t) (tally_status t) result) all.tally_is line)
 
   pub untold_ends : (fault : TellFault) (result : ℕ) → TellingEnds o mid asked bytes (Err fault) → TellFaultEnds mid o' fault result → ExplainEnds i i' o o' asked file result
   untold_ends Failed result within ends =
@@ -110,7 +122,7 @@ module _ (i i' : SourceState) (o mid o' : SinkState) (asked : AuditWords) (file 
       (subst (λ (s : SinkState). ExplainEnds i i' o s asked file 5) (sym ends.1) (unwritten_ends i i' o mid asked file from quiet within.rose (of_front within.records front within.lines)))
   untold_ends (Fault (Capture fault)) result within ends =
       let is : IsRefused i file (refusals.Fault fault) within.records = record { bytes = bytes; named = found.named; is = (found.short, within.stop) } in
-      refusal_ends i i' o mid o' asked file from (refusals.Fault fault) within.records result is quiet within.same within.lines ends
+      refusal_ends the asked file from (refusals.Fault fault) within.records result is quiet within.same within.lines ends
   untold_ends (Fault NoMemory) result within ends =
       let front : HasFront i file within.records = record { bytes = bytes; named = found.named; begins = within.stop } in
       subst (λ (k : ℕ). ExplainEnds i i' o o' asked file k) (sym ends.0)

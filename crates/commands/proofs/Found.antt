@@ -2,7 +2,26 @@
 use Rattle.commands.proofs.Words.{Asked, BeginsLines, ClockState, Err, FindsLive, FindsNothing, Gains, HasCause, LineEnds, LinkState, Live, LiveTotals, MatchResult, NoSession, OffLine, Ok, OnOk, Qualified, QualifyEnds, Result, Rose, SendFaults, SessionOf, SinkState, Symmetric, Undecided, WritesLines, WritesNothing, [], arith, free_port_of, inl, inr, line_failed, line_written, lit<, live_status, qualify_line, refl, subst, sym, ℕ, ◌∷◌, ◌≡◌, ◌⊎◌}
 use Rattle.td_outside.specs.declared.fails.Failed.{Failed}
 
-module _ (o o' : SinkState) (l l' : LinkState) (c c' : ClockState) (asked : Asked) (opened : Gains l.openings l'.openings (free_port_of asked.inside)) where
+-- the sink, the link and the clock before a session and after it, and what was asked
+pub record Around : Type 0 where
+  pub o : SinkState
+  pub o' : SinkState
+  pub l : LinkState
+  pub l' : LinkState
+  pub c : ClockState
+  pub c' : ClockState
+  pub asked : Asked
+
+-- what a session ends with: its result, and its counts
+pub record HasEnded (l l' : LinkState) (c c' : ClockState) (asked : Asked) (totals : LiveTotals) (result : Result Live Failed) : Type 0 where
+  pub cause : HasCause l.recv_faults l'.recv_faults result
+  pub sends : SendFaults l.send_faults l'.send_faults totals.failed
+  pub session : MatchResult result (λ answer. SessionOf asked l l' c c' totals (Ok answer))
+      (λ fault. NoSession l l' c c' totals ⊎ SessionOf asked l l' c c' totals (Err fault))
+
+module _ (the : Around) (opened : Gains the.l.openings the.l'.openings (free_port_of the.asked.inside)) where
+  open the use {o, o', l, l', c, c', asked}
+
   pub unlinked_ends : Rose l.recv_faults l'.recv_faults → o'.faults ≡ o.faults → WritesNothing o o' → FindsNothing l l' c c' asked → QualifyEnds o o' l l' c c' asked 6
   unlinked_ends rose same nothing finds = record {
     statuses = (2, lit< tt, refl);
@@ -54,20 +73,18 @@ module _ (o o' : SinkState) (l l' : LinkState) (c c' : ClockState) (asked : Aske
   line_ends live found result (line_failed ends rose lines) = subst (λ (n : ℕ). QualifyEnds o o' l l' c c' asked n) (sym ends) (unwritten_ends live found rose lines)
 
   -- the session's answer
-  pub found_line : (totals : LiveTotals) (result : Result Live Failed) (live : Live) → result ≡ Ok live → HasCause l.recv_faults l'.recv_faults result → SendFaults l.send_faults l'.send_faults totals.failed
-      → MatchResult result (λ answer. SessionOf asked l l' c c' totals (Ok answer)) (λ fault. NoSession l l' c c' totals ⊎ SessionOf asked l l' c c' totals (Err fault))
+  pub found_line : (totals : LiveTotals) (result : Result Live Failed) → HasEnded l l' c c' asked totals result → (live : Live) → result ≡ Ok live
       → (status : ℕ) → LineEnds o o' (qualify_line live totals) (live_status live) status → QualifyEnds o o' l l' c c' asked status
-  found_line totals result live is cause sends session status ends =
-      let receives : l'.recv_faults ≡ l.recv_faults = subst (λ (r : Result Live Failed). OnOk r (l'.recv_faults ≡ l.recv_faults)) is cause.kept in
+  found_line totals result is live ok status ends =
+      let receives : l'.recv_faults ≡ l.recv_faults = subst (λ (r : Result Live Failed). OnOk r (l'.recv_faults ≡ l.recv_faults)) ok is.cause.kept in
       let so : SessionOf asked l l' c c' totals (Ok live) = subst
       (λ (r : Result Live Failed). MatchResult r (λ answer. SessionOf asked l l' c c' totals (Ok answer))
-      (λ fault. NoSession l l' c c' totals ⊎ SessionOf asked l l' c c' totals (Err fault))) is session in
-      line_ends live (record { totals = totals; session = so; receives = receives; sends = sends }) status ends
+      (λ fault. NoSession l l' c c' totals ⊎ SessionOf asked l l' c c' totals (Err fault))) ok is.session in
+      line_ends live (record { totals = totals; session = so; receives = receives; sends = is.sends }) status ends
 
   -- the session's fault
-  pub fault_ends : (totals : LiveTotals) (result : Result Live Failed) → ((live : Live) → result ≡ Ok live → ⊥) → o'.faults ≡ o.faults
-      → WritesNothing o o' → HasCause l.recv_faults l'.recv_faults result → SendFaults l.send_faults l'.send_faults totals.failed
-      → MatchResult result (λ answer. SessionOf asked l l' c c' totals (Ok answer)) (λ fault. NoSession l l' c c' totals ⊎ SessionOf asked l l' c c' totals (Err fault))
-      → QualifyEnds o o' l l' c c' asked 6
-  fault_ends totals (Ok live) none same nothing cause sends session = absurd (none live refl)
-  fault_ends totals (Err fault) none same nothing cause sends session = unlinked_ends cause.failed same nothing (totals, sends, elim session [ inl shut ↦ inl shut | inr broke ↦ inr (fault, broke) ])
+  pub fault_ends : (totals : LiveTotals) (result : Result Live Failed) → HasEnded l l' c c' asked totals result → ((live : Live) → result ≡ Ok live → ⊥)
+      → o'.faults ≡ o.faults → WritesNothing o o' → QualifyEnds o o' l l' c c' asked 6
+  fault_ends totals (Ok live) is none same nothing = absurd (none live refl)
+  fault_ends totals (Err fault) is none same nothing =
+      unlinked_ends is.cause.failed same nothing (totals, is.sends, elim is.session [ inl shut ↦ inl shut | inr broke ↦ inr (fault, broke) ])

@@ -40,33 +40,50 @@ left_so s (Err NoMemory) = refl
 
 -- ---- a session
 
-module _ (l l' : LinkState) (c c' : ClockState) (asked : ServeWords) (totals : Totals) (mid : Told) (receives sends : ℕ)
-    (places : Option Place) (s new : ServerSettings) (opened : places ≡ open_on asked.primary asked.secondary) (same : KeepsTold l.told mid)
-    (kept : receives ≡ l.recv_faults) (other : sends ≡ l.send_faults) (made : s ≡ server_on asked) where
+-- a link before it was opened, then, and after the turns; the clock before them and after them; the server
+pub record Turning : Type 0 where
+  pub l : LinkState
+  pub mid : LinkState
+  pub l' : LinkState
+  pub c : ClockState
+  pub c' : ClockState
+  pub s : ServerSettings
+
+-- the link was opened for what was asked, and the server is that of it
+pub record IsOpened (l mid : LinkState) (asked : ServeWords) (s : ServerSettings) : Type 0 where
+  pub opened : mid.place ≡ open_on asked.primary asked.secondary
+  pub same : KeepsTold l.told mid.told
+  pub kept : mid.recv_faults ≡ l.recv_faults
+  pub other : mid.send_faults ≡ l.send_faults
+  pub made : s ≡ server_on asked
+
+module _ (the : Turning) (asked : ServeWords) (totals : Totals) (is : IsOpened the.l the.mid asked the.s) where
+  open the use {l, mid, l', c, c', s}
+
   -- the turns after the link was opened
-  pub session : (ended : Result (Unit {0}) PumpFault)
-      → Serves AnswersByTable NoneStarves IsSame asked.count asked.idles s new c c' mid l'.told totals ended
-      → l'.place ≡ places → ReceiveFaults receives l'.recv_faults ended → SendFaults sends l'.send_faults totals.failed
+  pub session : (new : ServerSettings) (ended : Result (Unit {0}) PumpFault)
+      → Serves AnswersByTable NoneStarves IsSame asked.count asked.idles s new c c' mid.told l'.told totals ended
+      → l'.place ≡ mid.place → ReceiveFaults mid.recv_faults l'.recv_faults ended → SendFaults mid.send_faults l'.send_faults totals.failed
       → Session l l' c c' asked totals ended
-  session ended served stay received sent =
+  session new ended served stay received sent =
       let state : served.state ≡ s = stays s served.turns served.state served.states in
       record {
-        places = stay ∙ opened;
+        places = stay ∙ is.opened;
         turns = record {
           turns = served.turns;
           state = server_on asked;
-          states = subst (λ (t : ServerSettings). Goes AnswersByTable t served.turns t) made (subst (λ (t : ServerSettings). Goes AnswersByTable s served.turns t) state served.states);
+          states = subst (λ (t : ServerSettings). Goes AnswersByTable t served.turns t) is.made (subst (λ (t : ServerSettings). Goes AnswersByTable s served.turns t) state served.states);
           left = left_so (server_on asked) ended;
           moments = served.moments;
           read = served.read;
-          told = carried_after l.told mid l'.told served.state (server_on asked) c'.last served.turns ended same served.told;
+          told = carried_after l.told mid.told l'.told served.state (server_on asked) c'.last served.turns ended is.same served.told;
           sums = served.sums;
           begun = served.begun;
           ended = served.ended;
         };
         outcomes = subst (λ (t : Totals). t.served ≡ t.sent + t.failed + t.six + t.dropped) (sym served.sums) (each_once s served.turns served.state served.states);
-        receives = subst (λ (m : ℕ). ReceiveFaults m l'.recv_faults ended) kept received;
-        sends = subst (λ (m : ℕ). SendFaults m l'.send_faults totals.failed) other sent;
+        receives = subst (λ (m : ℕ). ReceiveFaults m l'.recv_faults ended) is.kept received;
+        sends = subst (λ (m : ℕ). SendFaults m l'.send_faults totals.failed) is.other sent;
       }
 
 -- the link failed after some turns

@@ -46,8 +46,16 @@ module _ (asked : AuditWords) (rs : List Captured) (r : Captured) (place : ℕ) 
       let s = audited asked.primary asked.secondary in
       lines_grow s rs r ∙ ap (λ (x : Said). lines_for asked rs ++ said_lines (length rs) x) (sym is) ∙ ap (λ (n : ℕ). lines_for asked rs ++ said_lines n said) (sym place_is)
 
-module _ (o mid o' : SinkState) (asked : AuditWords) (x : List ℕ) (e next : Explainer) (place : ℕ) (said : Said) (so_far : TellsSoFar o mid asked x e place)
+-- the sink before any record, before this one and after it
+pub record Sinks : Type 0 where
+  pub o : SinkState
+  pub mid : SinkState
+  pub o' : SinkState
+
+module _ (the : Sinks) (asked : AuditWords) (x : List ℕ) (e next : Explainer) (place : ℕ) (said : Said) (so_far : TellsSoFar the.o the.mid asked x e place)
     (more : ExplainsNext (audited asked.primary asked.secondary) next x so_far.records (Some said)) where
+  open the use {o, mid, o'}
+
   -- its lines were written
   pub written_more : {E : Type 0} (u : Unit {0}) (later : ℕ) → Writing {E = E} mid o' (said_lines place said) (Ok u) → later ≡ length (so_far.records ++ more.0 ∷ []) → TellsSoFar o o' asked x next later
   written_more u later writing later_is =

@@ -12,7 +12,7 @@ use Rattle.sink_lines.specs.Lines.{WritesLines, BeginsLines, WritesNothing}
 use Rattle.commands.specs.declared.audit_words.AuditWords.{AuditWords}
 use Rattle.commands.specs.declared.audit_line.NoCapture.{NoCapture}
 use Rattle.commands.specs.declared.audit_line.NoCapture.TheVariants.{TooLong, Fault}
-use Rattle.commands.specs.declared.audit_file.TheConstants.{CAPTURE_MAX, CAPTURE_READ_MAX}
+use Rattle.commands.specs.declared.capture_file.TheConstants.{CAPTURE_MAX, CAPTURE_READ_MAX}
 use Rattle.commands.specs.declared.statuses.TheConstants.{DONE, UNREADABLE, UNWRITABLE, NO_MEMORY, UNLICENSED, NO_CAPTURE}
 use Rattle.commands.specs.Outside.{NoFault}
 use Rattle.commands.specs.SourceText.{TakesAtMost}

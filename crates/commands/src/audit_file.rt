@@ -1,21 +1,16 @@
 //! The audit of a file.
 ghost use Rattle.commands.specs.Audit.{AuditEnds};
 
-use crate::audit_line::{NoCapture, put_no_capture_line, put_verdict_line, verdict_status};
+use crate::audit_line::{NoCapture, put_verdict_line, verdict_status};
 use crate::audit_words::AuditWords;
+use crate::capture_file::{CAPTURE_MAX, CAPTURE_READ_MAX, end_no_capture};
 use crate::last_line::end_with;
 use crate::source_text::read_named;
-use crate::statuses::{NO_CAPTURE, NO_MEMORY};
+use crate::statuses::NO_MEMORY;
 use std::alloc::Global;
 use td_audit::{AuditFault, audit};
 use td_base::LineBuf;
 use td_outside::{Sink, Source};
-
-/// The most bytes of a capture that is audited: 96 MiB.
-pub const CAPTURE_MAX: usize = 100_663_296;
-
-/// How many bytes of a file are read at most: those of the longest capture, and one that shows that it is longer.
-pub const CAPTURE_READ_MAX: usize = CAPTURE_MAX + 1;
 
 /// The command `audit IP1 IP2 FILE`.
 pub fn audit_named<S: Source, K: Sink>(
@@ -33,20 +28,16 @@ pub fn audit_named<S: Source, K: Sink>(
         Ok(bytes) => bytes,
         Err(fault) => return u8::from(fault),
     };
-    let mut line = LineBuf::new();
     if bytes.len() > CAPTURE_MAX {
-        put_no_capture_line(&NoCapture::TooLong, &mut line);
-        return end_with(out, line.as_slice(), NO_CAPTURE);
+        return end_no_capture(&NoCapture::TooLong, out);
     }
     match audit(alloc, asked.primary, asked.secondary, &bytes) {
         Ok(verdict) => {
+            let mut line = LineBuf::new();
             put_verdict_line(&verdict, &mut line);
             end_with(out, line.as_slice(), verdict_status(&verdict))
         }
-        Err(AuditFault::Capture(fault)) => {
-            put_no_capture_line(&NoCapture::Fault(fault), &mut line);
-            end_with(out, line.as_slice(), NO_CAPTURE)
-        }
+        Err(AuditFault::Capture(fault)) => end_no_capture(&NoCapture::Fault(fault), out),
         Err(AuditFault::NoMemory) => NO_MEMORY,
     }
 }

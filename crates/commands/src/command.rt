@@ -31,6 +31,8 @@ pub enum Command<'a> {
     Nested { file: &'a str, chain: &'a str },
     /// Plays the scenario of a file with NATs behind others, and says who reaches whom.
     Reach { file: &'a str, chain: &'a str },
+    /// Plays the scenario of a file with NATs behind others, and says after each record what it changed of what nodes keep.
+    State { file: &'a str, chain: &'a str },
 }
 
 /// The command of two words.
@@ -75,24 +77,33 @@ fn with_two<'a>(command: &str, first: &'a str, second: &'a str) -> Option<Comman
 }
 
 /// The command of four words.
-fn with_file<'a>(
+fn with_three<'a>(
     command: &str,
-    primary: &str,
-    secondary: &str,
-    file: &'a str,
+    first: &'a str,
+    second: &'a str,
+    third: &'a str,
 ) -> Option<Command<'a>>
-    ensures found { IfSome result (λ c. AsksFor (command.now ∷ primary.now ∷ secondary.now ∷ file.now ∷ []) (request_of c)) }
-    ensures only { (asked : Request) → AsksFor (command.now ∷ primary.now ∷ secondary.now ∷ file.now ∷ []) asked → option_map request_of result ≡ Some asked }
+    ensures found { IfSome result (λ c. AsksFor (command.now ∷ first.now ∷ second.now ∷ third.now ∷ []) (request_of c)) }
+    ensures only { (asked : Request) → AsksFor (command.now ∷ first.now ∷ second.now ∷ third.now ∷ []) asked → option_map request_of result ≡ Some asked }
 {
     if command == "audit" {
-        let asked = audit_words(primary, secondary)?;
-        return Some(Command::Audit { asked, file });
+        let asked = audit_words(first, second)?;
+        return Some(Command::Audit { asked, file: third });
     }
     if command == "explain" {
-        let asked = audit_words(primary, secondary)?;
-        return Some(Command::Explain { asked, file });
+        let asked = audit_words(first, second)?;
+        return Some(Command::Explain { asked, file: third });
     }
-    None
+    if command != "state" {
+        return None;
+    }
+    if third != "each" {
+        return None;
+    }
+    Some(Command::State {
+        file: first,
+        chain: second,
+    })
 }
 
 /// The command of five words.
@@ -175,11 +186,11 @@ pub fn command_of(words: &[String]) -> Option<Command<'_>>
     match words {
         [command, word] => with_word(command.as_str(), word.as_str()),
         [command, first, second] => with_two(command.as_str(), first.as_str(), second.as_str()),
-        [command, primary, secondary, file] => with_file(
+        [command, first, second, third] => with_three(
             command.as_str(),
-            primary.as_str(),
-            secondary.as_str(),
-            file.as_str(),
+            first.as_str(),
+            second.as_str(),
+            third.as_str(),
         ),
         _ => None,
     }

@@ -6,17 +6,16 @@ ghost use Rattle.td_explain.specs.Lines.{said_lines};
 ghost use Rattle.commands.specs.Explain.{ExplainEnds, tally_status};
 ghost use Rattle.commands.specs.ExplainEndings.{TellingEnds, FaultEnds, TellFaultEnds};
 
-use crate::audit_file::{CAPTURE_MAX, CAPTURE_READ_MAX};
-use crate::audit_line::{NoCapture, put_no_capture_line};
+use crate::audit_line::NoCapture;
 use crate::audit_words::AuditWords;
+use crate::capture_file::{CAPTURE_MAX, CAPTURE_READ_MAX, end_no_capture};
 use crate::last_line::end_with;
 use crate::source_text::read_named;
-use crate::statuses::{DONE, NO_CAPTURE, NO_MEMORY, UNLICENSED, UNWRITABLE};
+use crate::statuses::{DONE, NO_MEMORY, UNLICENSED, UNWRITABLE};
 use show::Page;
 use sink_lines::write_line;
 use std::alloc::Global;
 use td_audit::AuditFault;
-use td_base::LineBuf;
 use td_explain::{
     Answered, Explainer, Question, Said, Tally, put_answered_line, put_asked_line, put_other_line,
     put_skipped_line, put_tally_line,
@@ -159,11 +158,7 @@ fn end_fault<K: Sink>(fault: AuditFault, out: &mut K) -> u8
     ensures { FaultEnds (K.state out.old) (K.state out.new) fault result }
 {
     match fault {
-        AuditFault::Capture(fault) => {
-            let mut line = LineBuf::new();
-            put_no_capture_line(&NoCapture::Fault(fault), &mut line);
-            end_with(out, line.as_slice(), NO_CAPTURE)
-        }
+        AuditFault::Capture(fault) => end_no_capture(&NoCapture::Fault(fault), out),
         AuditFault::NoMemory => NO_MEMORY,
     }
 }
@@ -195,9 +190,7 @@ pub fn explain_named<S: Source, K: Sink>(
         Err(fault) => return u8::from(fault),
     };
     if bytes.len() > CAPTURE_MAX {
-        let mut line = LineBuf::new();
-        put_no_capture_line(&NoCapture::TooLong, &mut line);
-        return end_with(out, line.as_slice(), NO_CAPTURE);
+        return end_no_capture(&NoCapture::TooLong, out);
     }
     let mut page = Page::new();
     match tell_records(alloc, asked, &bytes, &mut page, out) {

@@ -15,8 +15,8 @@
 //!
 //! # What it does not know
 //!
-//! Scenarios, nodes and histories, and so what `lab`, `wire`, `nested`, `reach` and `gen` do: it has their words alone. It has
-//! no file, no standard output and no socket of its own.
+//! Scenarios, nodes and histories, and so what `lab`, `wire`, `nested`, `reach`, `state` and `gen` do: it has their words alone. It
+//! has no file, no standard output and no socket of its own.
 //!
 //! # Parts
 //!
@@ -34,6 +34,7 @@
 //! | `session` | a server at a link | `specs/Session.antt` |
 //! | `service` | the same, to its line: `serve` | `specs/Session.antt` |
 //! | `serve_line` | the line that `serve` ends with | `specs/ServeLine.antt` |
+//! | `capture_file` | a capture in a file: how long it may be, and how a run ends where a file is none | |
 //! | `audit_file` | the audit of a file | `specs/Audit.antt`, over `specs/Outside.antt` |
 //! | `audit_line` | the lines that `audit` ends with | `specs/AuditLine.antt` |
 //! | `explain_file` | a capture of a file, explained | `specs/Explain.antt`, `ExplainEndings.antt` |
@@ -53,6 +54,7 @@
 mod audit_file;
 mod audit_line;
 mod audit_words;
+mod capture_file;
 mod command;
 mod explain_file;
 mod gen_words;
@@ -68,9 +70,10 @@ mod shown_word;
 mod source_text;
 mod statuses;
 
-pub use audit_file::{CAPTURE_MAX, CAPTURE_READ_MAX, audit_named};
+pub use audit_file::audit_named;
 pub use audit_line::NoCapture;
 pub use audit_words::AuditWords;
+pub use capture_file::{CAPTURE_MAX, CAPTURE_READ_MAX};
 pub use command::{Command, command_of};
 pub use explain_file::explain_named;
 pub use gen_words::{GenWords, SEED_MAX};

@@ -23,6 +23,7 @@
 //! | `captures` | `run` on `wire`, `audit` and `explain` |
 //! | `nested` | `run` on `nested` |
 //! | `reach` | `run` on `reach`, with a source and a sink that fail |
+//! | `kept_states` | `run` on `state`, with a source and a sink that fail |
 //! | `refusals` | `run` on `lab`, with bytes that are no text, and with too many |
 //! | `arrivals` | `run` on `serve`, over a link in memory |
 //! | `sockets` | `run` on `serve`, over two sockets |
@@ -48,6 +49,8 @@ mod failing_sends;
 mod files_and_words;
 #[cfg(test)]
 mod full_wires;
+#[cfg(test)]
+mod kept_states;
 #[cfg(test)]
 mod lines;
 #[cfg(test)]

@@ -31,6 +31,7 @@ pub use Rattle.theory_reaching.proofs.LawProofs.{words_are_kept}
 pub use Rattle.theory_promises.proofs.LawProofs.{kept_in_scenarios}
 pub use Rattle.theory_promises.specs.Kept.{IsKeptSoFar}
 pub use Rattle.reach_query.specs.ReachAccount.{reach_account}
+pub use Rattle.state_writer.specs.StateAccount.{state_account}
 pub use Rattle.scenario.specs.Refusals.{refusal_line}
 unfoldable pub use Rattle.scenario.specs.Scenario.{scenario_of}
 pub use Rattle.scenario.specs.Told.{told}
@@ -50,5 +51,7 @@ pub use Rattle.teredo_app.specs.NestedLine.{not_nested_line}
 pub use Rattle.teredo_app.specs.Reach.{ReachBegins, ReachEnds, ReadsWithChain, ReadsWithoutChain, SaysWords, no_chain_line, of_bad_text, of_no_chain, of_words}
 pub use Rattle.teredo_app.specs.ReachEndings.{KeepsWords, SaysIn, ScenariosKeepWords, none_asked, not_begun, said_in}
 pub use Rattle.teredo_app.specs.Reads.{IsNamedText, Reads, ReadsKept}
+pub use Rattle.teredo_app.specs.State.{StateBegins, StateEnds, no_chain_told, of_no_scenario, of_states, of_unchained}
+pub use Rattle.teredo_app.specs.StateEndings.{TellsIn, none_to_ask, not_started, told_in}
 pub use Rattle.teredo_app.specs.declared.nested_file.NoChains.{NoChains}
 pub use Rattle.teredo_app.specs.declared.nested_line.NotNested.{NotNested}

@@ -15,7 +15,7 @@ use Rattle.player.specs.Accounts.{report_account, totals_account, capture_accoun
 use Rattle.player.specs.Endings.{WritesAll, WritesFull, WritesStarved, BeginsAccount}
 use Rattle.theory_wires.specs.ReadsBack.{capture_text}
 use Rattle.theory_wires.specs.HoldsWire.{HoldsWire}
-use Rattle.commands.specs.declared.audit_file.TheConstants.{CAPTURE_MAX}
+use Rattle.commands.specs.declared.capture_file.TheConstants.{CAPTURE_MAX}
 use Rattle.commands.specs.declared.statuses.TheConstants.{DONE, BAD_WORDS, BAD_SCENARIO, UNREADABLE, UNWRITABLE, NO_MEMORY, WIRE_FULL}
 use Rattle.teredo_app.specs.declared.scenario_file.TheConstants.{TEXT_READ_MAX}
 use Rattle.td_outside.specs.Source.{SourceState}
@@ -30,7 +30,8 @@ use Rattle.commands.specs.Show.{ShowEnds}
 use Rattle.commands.specs.Qualify.{QualifyEnds}
 use Rattle.teredo_app.specs.Nested.{NestedEnds}
 use Rattle.teredo_app.specs.Reach.{ReachEnds}
-use Rattle.commands.specs.Command.{Request, lab, serve, show, gen, wire, audit, explain, qualify, nested, reach}
+use Rattle.teredo_app.specs.State.{StateEnds}
+use Rattle.commands.specs.Command.{Request, lab, serve, show, gen, wire, audit, explain, qualify, nested, reach, state}
 use Rattle.commands.specs.declared.gen_words.GenWords.{GenWords}
 
 -- the line of words that are no command
@@ -41,7 +42,7 @@ bad_words = codes "words\n"
 pub record PlaysAll (a : Account) (i : SourceState) (o o' : SinkState) (file : List ℕ) : Type 0 where
   pub scenario : Scenario
   pub reads : Reads i file (Ok scenario)
-  -- | On `lab`, `wire`, `nested`, `reach` and `gen` a packet with a Teredo source that a client's host was handed, or
+  -- | On `lab`, `wire`, `nested`, `reach`, `state` and `gen` a packet with a Teredo source that a client's host was handed, or
   --   that came to a native host, came from the endpoint that the source embeds; one from outside Teredo that a
   --   client's host was handed came from a relay, for the native host that had sent it, or a named event put it there;
   --   and an address that a client got, where nobody speaks for its server, embeds its NAT's address, and a port that
@@ -49,7 +50,7 @@ pub record PlaysAll (a : Account) (i : SourceState) (o o' : SinkState) (file : L
   --   played: with 0, and with 5, 7 and 8 of the records whose lines were written. Either a `stranger` or a `copy` put
   --   the packet there, or a client's host had handed it in, byte for byte, while that source was the client's address,
   --   and it left that client's outermost NAT from there. It is stated in `Reads.antt`, `Ends.antt`, `Nested.antt`,
-  --   `Reach.antt`, with what that is in `theory_promises/Kept.antt`, and the histories in `player/Endings.antt`.
+  --   `Reach.antt`, `State.antt`, with what that is in `theory_promises/Kept.antt`, and the histories in `player/Endings.antt`.
   --   Needs: for the address, that no `stranger` and no `copy` has one of the two endpoints of the client's server as
   --   its source.
   --   Leaves open: who speaks for a relay; that nobody else had the address, since a port may be given again; that
@@ -186,6 +187,7 @@ RunEnds a b (Some (explain asked file)) status = ExplainEnds a.source b.source a
 RunEnds a b (Some (qualify asked)) status = QualifyEnds a.sink b.sink a.link b.link a.clock b.clock asked status
 RunEnds a b (Some (nested file chain)) status = NestedEnds a.source b.source a.sink b.sink file chain status
 RunEnds a b (Some (reach file chain)) status = ReachEnds a.source b.source a.sink b.sink file chain status
+RunEnds a b (Some (state file chain)) status = StateEnds a.source b.source a.sink b.sink file chain status
 RunEnds a b None status = WordsEnd a.sink b.sink status
 
 -- The program may end with this status where it is asked for this: its states before and after fit.

@@ -2,8 +2,10 @@ pub mod Reads
 pub mod NestedLine
 pub mod Nested
 pub mod Reach
+pub mod State
 pub mod Ends
 pub mod Endings
 pub mod NestedEndings
 pub mod ReachEndings
+pub mod StateEndings
 pub mod Numbers

@@ -4,7 +4,7 @@ use Rattle.commands.specs.declared.statuses.TheConstants.{DONE, BAD_PAYLOAD, BAD
 use Rattle.commands.specs.declared.statuses.TheConstants.{NO_LINK, NO_MEMORY, WIRE_FULL, UNDECIDED, UNLICENSED, NO_CAPTURE, NOT_NESTED}
 use Rattle.commands.specs.declared.gen_words.TheConstants.{SEED_MAX}
 use Rattle.teredo_app.specs.declared.scenario_file.TheConstants.{TEXT_READ_MAX}
-use Rattle.commands.specs.declared.audit_file.TheConstants.{CAPTURE_MAX, CAPTURE_READ_MAX}
+use Rattle.commands.specs.declared.capture_file.TheConstants.{CAPTURE_MAX, CAPTURE_READ_MAX}
 
 -- the numbers that the program ends with, and that its words may say, are those of this project
 pub record ProgramNumbers : Type 0 where

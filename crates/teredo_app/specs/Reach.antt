@@ -49,8 +49,8 @@ pub record SaysWords (s : Scenario) (chain : List Behind) (o o' : SinkState) : T
   pub written : WritesAll reach_account s chain o o'
   -- | Where `reach` answers 0, each word keeps its promise, of this very history: the next packet comes within so many
   --   deliveries, or it doesn't come. The very test that the packet's record drew comes to a native host, whatever shut
-  --   word it is. It is stated in `Reach.antt`, `theory_reaching/Kept.antt`, with the promises in `theory_reaching/Promises.antt`.
-  --   Needs: of `full` from one, that it isn't so only because of the four packets that the client holds of it.
+  --   word it is; and one with the bytes of a packet that the client holds of a native host comes to the client, where
+  --   nothing but the four that it holds makes it `full`. It is stated in `Reach.antt`, `theory_reaching/Kept.antt`, with the promises in `theory_reaching/Promises.antt`.
   --   Leaves open: that anything is delivered.
   pub kept : WordsKept (lab_of s chain) written.history
 

@@ -23,6 +23,7 @@ fn say_in<K: Sink>(room: Vec<u8>, s: &Scenario, chain: &str, out: &mut K) -> u8
     requires legal { AllByRecursion (IsEvent s.now.topology) s.now.events }
     ensures { SaysIn (K.state out.old) (K.state out.new) (told s.now) chain.now result }
 {
+    // for the proof: its rules
     let _rules = s.topology.clients();
     let chains = match Chains::new(*room.allocator(), &s.topology, chain.as_bytes()) {
         Ok(chains) => chains,

@@ -43,6 +43,7 @@ pub(crate) fn scenario_in<S: Source, K: Sink>(
     let text = read_named(alloc, src, file, TEXT_READ_MAX)?;
     match read(alloc, &text) {
         Ok(s) => {
+            // for the proof: its rules
             let _rules = s.topology.servers();
             Ok((s, text))
         }
@@ -87,6 +88,7 @@ pub fn wire<S: Source, K: Sink>(alloc: Global, file: &str, src: &mut S, out: &mu
     theory_wires::scenarios_hold_wires();
     match scenario_in(alloc, file, src, out) {
         Ok((s, text)) => {
+            // for the proof: its rules
             let _rules = s.topology.servers();
             let mut capture = CaptureWriter::new();
             status_of(play_flat(text, s.seed, &s.topology, &s.events, &mut capture, out))

@@ -16,8 +16,7 @@ returns-then-len-gt-CAPTURE_MAX g c =
     let long : 100663296 < length c.in-Ok.bytes.items = omega (arith, c.len.ensures, c.if-len-gt-CAPTURE_MAX.true) in
     let (whole, named, longer) = too_long _ c.in-Ok.bytes.items c.in-Ok.ensures.text long in
     let found : FindsNoCapture _ c.args.file.now TooLong = record { bytes = whole; named = named; is = longer } in
-    let line = rw c.as_slice.ensures.value at c.end_with.ensures in
-    no_capture_ends _ _ _ _ c.args.asked.now c.args.file.now from TooLong c.end_with.result found c.in-Ok.ensures.quiet (rw c.put_no_capture_line.ensures at line)
+    no_capture_ends _ _ _ _ c.args.asked.now c.args.file.now from TooLong c.end_no_capture.result found c.in-Ok.ensures.quiet c.end_no_capture.ensures
 
 pub returns-in-Ok-audit : goal.returns-in-Ok-audit
 returns-in-Ok-audit g c =
@@ -29,9 +28,9 @@ returns-in-Ok-audit g c =
       named = whole_capture _ c.in-Ok.bytes.items c.in-Ok.ensures.text short;
       is = record { short = short; judged = judged };
     } in
-    let line = rw c.as_slice-in-Ok-audit.ensures.value at c.end_with-in-Ok-audit.ensures in
+    let line = rw c.as_slice.ensures.value at c.end_with.ensures in
     let named = rw c.put_verdict_line.ensures at line in
-    verdict_ends _ _ _ _ c.args.asked.now c.args.file.now from c.in-Ok-audit.verdict c.end_with-in-Ok-audit.result found c.in-Ok.ensures.quiet (rw c.verdict_status.ensures at named)
+    verdict_ends _ _ _ _ c.args.asked.now c.args.file.now from c.in-Ok-audit.verdict c.end_with.result found c.in-Ok.ensures.quiet (rw c.verdict_status.ensures at named)
 
 pub returns-in-Err-Capture : goal.returns-in-Err-Capture
 returns-in-Err-Capture g c =
@@ -43,8 +42,8 @@ returns-in-Err-Capture g c =
       named = whole_capture _ c.in-Ok.bytes.items c.in-Ok.ensures.text short;
       is = (short, rw (c.in-Err-Capture.field-0-is) at fault);
     } in
-    let line = rw c.as_slice-in-Err-Capture.ensures.value at c.end_with-in-Err-Capture.ensures in
-    no_capture_ends _ _ _ _ c.args.asked.now c.args.file.now from (Fault c.in-Err-Capture.fault) c.end_with-in-Err-Capture.result found c.in-Ok.ensures.quiet (rw c.put_no_capture_line-in-Err-Capture.ensures at line)
+    no_capture_ends _ _ _ _ c.args.asked.now c.args.file.now from (Fault c.in-Err-Capture.fault) c.end_no_capture-in-Err-Capture.result found c.in-Ok.ensures.quiet
+    c.end_no_capture-in-Err-Capture.ensures
 
 pub returns : goal.returns
 returns g c =

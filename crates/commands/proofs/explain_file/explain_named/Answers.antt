@@ -1,6 +1,6 @@
 use Rattle.commands.proofs.Words.{Err, IsRefused, List, Opened, TellingEnds, TooLong, WritesNothing-refl, [], arith, length, none_written, refl, subst, ℕ, ◌<◌, ◌≤◌}
 use Rattle.commands.proofs.Audited.{whole_capture, too_long}
-use Rattle.commands.proofs.Explained.{IsRead, unread_ends, refusal_ends, told_ends, untold_ends}
+use Rattle.commands.proofs.Explained.{IsRead, Ending, unread_ends, refusal_ends, told_ends, untold_ends}
 use Rattle.commands.proofs.explain_file.explain_named.Goals as goal
 
 pub returns-in-Err : goal.returns-in-Err
@@ -16,8 +16,14 @@ returns-then-len-gt-CAPTURE_MAX g c =
     let long : 100663296 < length c.in-Ok.bytes.items = omega (arith, c.len.ensures, c.if-len-gt-CAPTURE_MAX.true) in
     let (whole, named, longer) = too_long _ c.in-Ok.bytes.items c.in-Ok.ensures.text long in
     let is : IsRefused _ c.args.file.now TooLong [] = record { bytes = whole; named = named; is = (longer, refl) } in
-    let line = rw c.put_no_capture_line.ensures at (rw c.as_slice.ensures.value at c.end_with.ensures) in
-    refusal_ends _ _ _ _ _ c.args.asked.now c.args.file.now from TooLong [] c.end_with.result is c.in-Ok.ensures.quiet refl (none_written _) line
+    let the : Ending = record {
+      i = g.S.Source.state c.args.src.now;
+      i' = g.S.Source.state c.read_named.new.src;
+      o = g.K.Sink.state c.args.out.now;
+      mid = g.K.Sink.state c.args.out.now;
+      o' = g.K.Sink.state c.end_no_capture.new.out;
+    } in
+    refusal_ends the c.args.asked.now c.args.file.now from TooLong [] c.end_no_capture.result is c.in-Ok.ensures.quiet refl (none_written _) c.end_no_capture.ensures
 
 pub returns-in-Ok-tell_records : goal.returns-in-Ok-tell_records
 returns-in-Ok-tell_records g c =
@@ -25,8 +31,15 @@ returns-in-Ok-tell_records g c =
     let short : length c.in-Ok.bytes.items ≤ 100663296 = omega (arith, c.len.ensures, c.if-len-gt-CAPTURE_MAX.false) in
     let read : IsRead _ c.args.file.now c.in-Ok.bytes.items = record { named = whole_capture _ c.in-Ok.bytes.items c.in-Ok.ensures.text short; short = short } in
     let all = rw c.deref.ensures.value at c.in-Ok-tell_records.ensures in
-    let line = rw c.put_tally_line.ensures at (rw c.as_slice-in-Ok-tell_records.ensures.value at c.end_with-in-Ok-tell_records.ensures) in
-    told_ends _ _ _ _ _ c.args.asked.now c.args.file.now c.in-Ok.bytes.items from read c.in-Ok.ensures.quiet c.in-Ok-tell_records.tally c.end_with-in-Ok-tell_records.result all (rw c.tally_status.ensures at line)
+    let line = rw c.put_tally_line.ensures at (rw c.as_slice.ensures.value at c.end_with.ensures) in
+    let the : Ending = record {
+      i = g.S.Source.state c.args.src.now;
+      i' = g.S.Source.state c.read_named.new.src;
+      o = g.K.Sink.state c.args.out.now;
+      mid = g.K.Sink.state c.tell_records.new.out;
+      o' = g.K.Sink.state c.end_with.new.out;
+    } in
+    told_ends the c.args.asked.now c.args.file.now c.in-Ok.bytes.items from read c.in-Ok.ensures.quiet c.in-Ok-tell_records.tally c.end_with.result all (rw c.tally_status.ensures at line)
 
 pub returns : goal.returns
 returns g c =
@@ -34,4 +47,11 @@ returns g c =
     let short : length c.in-Ok.bytes.items ≤ 100663296 = omega (arith, c.len.ensures, c.if-len-gt-CAPTURE_MAX.false) in
     let read : IsRead _ c.args.file.now c.in-Ok.bytes.items = record { named = whole_capture _ c.in-Ok.bytes.items c.in-Ok.ensures.text short; short = short } in
     let within = subst (λ (x : List ℕ). TellingEnds (g.K.Sink.state c.args.out.now) (g.K.Sink.state c.tell_records.new.out) c.args.asked.now x (Err c.in-Err-tell_records.fault)) c.deref.ensures.value c.in-Err-tell_records.ensures in
-    untold_ends _ _ _ _ _ c.args.asked.now c.args.file.now c.in-Ok.bytes.items from read c.in-Ok.ensures.quiet c.in-Err-tell_records.fault c.end_untold.result within c.end_untold.ensures
+    let the : Ending = record {
+      i = g.S.Source.state c.args.src.now;
+      i' = g.S.Source.state c.read_named.new.src;
+      o = g.K.Sink.state c.args.out.now;
+      mid = g.K.Sink.state c.tell_records.new.out;
+      o' = g.K.Sink.state c.end_untold.new.out;
+    } in
+    untold_ends the c.args.asked.now c.args.file.now c.in-Ok.bytes.items from read c.in-Ok.ensures.quiet c.in-Err-tell_records.fault c.end_untold.result within c.end_untold.ensures
