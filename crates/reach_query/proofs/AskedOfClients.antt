@@ -1,5 +1,5 @@
 -- What the table of words asks of two clients, as a world answers it.
-use Rattle.reach_query.proofs.Words.{AreAlikeOfTwo, Bool, ClientHere, ClientNode, Full, Ip6, Lab, List, TwoClients, address_at, between_clients_row, embedded, false, has_cone, has_room, is_barred, is_fresh, is_led_to, is_on, is_settled, keeps_packets, known, not, now, outermost, peers_of, refl, true, two_clients, ℕ, ◌&&◌, ◌==◌, ◌||◌, ◌≡◌}
+use Rattle.reach_query.proofs.Words.{AreAlikeOfTwo, Bool, ClientHere, ClientNode, Full, Ip6, Lab, List, TwoClients, address_at, between_clients_row, embedded, false, has_cone, has_room, is_barred, is_fresh, is_led_to, is_on, is_settled, known, length, not, now, outermost, peers_of, refl, same_ip6, speaks_to, true, two_clients, ℕ, ◌&&◌, ◌==◌, ◌||◌, ◌≡◌}
 use Rattle.theory_reaching.specs.declared.word.Reach.TheVariants as word
 
 -- at a moment, where the two have these addresses
@@ -7,6 +7,8 @@ abbrev pub asked_at : Lab → List Full → ClientHere → ClientHere → ℕ �
 asked_at lab H a b m own other = record {
   on = is_on lab H a.number a.row;
   there = is_on lab H b.number b.row;
+  same_address = same_ip6 own other;
+  speaks = speaks_to lab H a.row own (embedded other);
   settled = is_settled lab H a.number a.row && is_settled lab H b.number b.row;
   one_nat = outermost lab a.row == outermost lab b.row;
   heard = has_room (peers_of H b.number) m own;
@@ -16,8 +18,8 @@ asked_at lab H a b m own other = record {
   barred = is_barred m (known (peers_of H a.number) m other);
   room = has_room (peers_of H a.number) m other;
   barred_there = is_barred m (known (peers_of H b.number) m own) && (has_cone own || not (is_led_to lab H (embedded own) (embedded other) b.number));
-  known = keeps_packets (known (peers_of H a.number) m other)
-      || (keeps_packets (known (peers_of H b.number) m own) || is_barred m (known (peers_of H b.number) m own));
+  waiting = length (known (peers_of H b.number) m own).waiting;
+  peer_barred = is_barred m (known (peers_of H b.number) m own);
   from_cone = has_cone own;
 }
 

@@ -1,5 +1,5 @@
 -- What the tables of words ask of a client, a native host and its relay, as a world answers it.
-use Rattle.reach_query.proofs.Words.{AreAlike, Bool, ClientHere, ClientNode, Full, Ip6, Lab, List, NativeNode, None, Option, RelayNode, Relayed, Some, address_at, clients_of, embedded, false, from_native_row, has_cone, has_room, has_room_for_both, holds_most, is_barred, is_fresh, is_led_to, is_listed, is_on, is_settled, is_some, is_trusted_at, keeps_packets, known, not, now, option_map, peers_of, refl, relayed, to_native_row, true, ℕ, ◌&&◌, ◌||◌, ◌≡◌}
+use Rattle.reach_query.proofs.Words.{AreAlike, Bool, ClientHere, ClientNode, Full, Ip6, Lab, List, NativeNode, None, Option, RelayNode, Relayed, Some, address_at, asks_at, clients_of, embedded, false, from_native_row, has_cone, has_room, has_room_for_both, holds_most, is_barred, is_fresh, is_led_to, is_listed, is_on, is_settled, is_some, is_trusted_at, keeps_packets, known, not, now, option_map, peers_of, refl, relayed, speaks_to, to_native_row, true, ℕ, ◌&&◌, ◌||◌, ◌≡◌}
 use Rattle.theory_reaching.specs.declared.word.Reach.TheVariants as word
 
 -- at a moment, where the client has this address
@@ -7,6 +7,8 @@ abbrev pub asked_through : Lab → List Full → ClientHere → NativeNode → R
 asked_through lab H a h r m own = record {
   on = is_on lab H a.number a.row;
   settled = is_settled lab H a.number a.row;
+  speaks = speaks_to lab H a.row own r.at;
+  speaks_server = speaks_to lab H a.row own (asks_at lab a.row);
   fresh = is_fresh m (known (peers_of H a.number) m h.six);
   trusted = is_trusted_at r.at (known (peers_of H a.number) m h.six);
   listed = is_listed own m (clients_of H h.relay);
@@ -18,7 +20,6 @@ asked_through lab H a h r m own = record {
   room = has_room (peers_of H a.number) m h.six && has_room (clients_of H h.relay) m own;
   room_for_both = has_room_for_both (peers_of H a.number) m h.six r.six;
   holds_most = holds_most (known (peers_of H a.number) m h.six);
-  keeps = keeps_packets (known (peers_of H a.number) m h.six);
   relay_keeps = keeps_packets (known (clients_of H h.relay) m own);
 }
 

@@ -2,6 +2,7 @@ mod Words
 mod Shown
 mod NoWord
 mod AskedOfClients
+mod Spoken
 mod AskedOfRelays
 mod WordLengths
 mod PairNumbers

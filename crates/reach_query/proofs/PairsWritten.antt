@@ -55,8 +55,19 @@ pub record SaidSome (t : TopologyState) (all rest : List Said) (before after : S
 pub none_yet : (t : TopologyState) (all rest : List Said) (a : SinkState) (c : PairCounts) → all ≡ rest → SaidSome t all rest a a c c
 none_yet t all rest a c is = record { done = []; all_is = is; written = none_written a; counted = none_counted c; quiet = refl }
 
-module _ (t : TopologyState) (all rest ps rest' : List Said) (before after end : SinkState) (old mid new : PairCounts)
-    (s : SaidSome t all rest before after old mid) (is : rest ≡ ps ++ rest') where
+-- the sink and the counts before any of these, behind some, and behind some more
+pub record SomeMore : Type 0 where
+  pub before : SinkState
+  pub after : SinkState
+  pub end : SinkState
+  pub old : PairCounts
+  pub mid : PairCounts
+  pub new : PairCounts
+
+module _ (the : SomeMore) (t : TopologyState) (all rest ps rest' : List Said)
+    (s : SaidSome t all rest the.before the.after the.old the.mid) (is : rest ≡ ps ++ rest') where
+  open the use {before, after, end, old, mid, new}
+
   all_on : all ≡ (s.done ++ ps) ++ rest'
   all_on = s.all_is ∙ ap (λ (l : List Said). s.done ++ l) is ∙ sym (append_assoc s.done ps rest')
 

@@ -7,6 +7,7 @@ pub use Rattle.std.proofs.lemmas.Result.{err_from_is_err_and}
 pub use Rattle.std.specs.List.{cons_option, list_all, list_any, range_with_len}
 pub use Rattle.std.specs.Prelude.{codes, decimal, flat_map, is_some, map, not, option_and_then, option_map, unwrap_or, ◌&&◌, ◌==◌, ◌||◌}
 pub use Rattle.td_base.specs.Ep.{server_ep}
+pub use Rattle.td_base.specs.Ip6.{same_ip6}
 pub use Rattle.td_base.specs.declared.endpoint.Ep.{Ep}
 pub use Rattle.td_base.specs.declared.ipv6.Ip6.{Ip6}
 pub use Rattle.teredo_addr.specs.Teredo.{embedded, has_cone, unspecified}
@@ -25,17 +26,19 @@ pub use Rattle.client_rules.specs.Bearings.{mentions}
 pub use Rattle.client_core.specs.Client.{ClientStandsFor, settings_of}
 pub use Rattle.nat_kinds.specs.Kinds.{is_cone_kind, is_symmetric}
 pub use Rattle.topology.proofs.Counts.{count}
+pub use Rattle.topology.proofs.LawProofs.{each_node}
 pub use Rattle.topology.specs.Chains.{Behind, last_nat, nat_set_up, nats_from, outer_in, way_out}
-pub use Rattle.topology.specs.Named.{has_host}
+pub use Rattle.topology.specs.Named.{has_host, is_nat}
 pub use Rattle.topology.specs.Rows.{TopologyState}
-pub use Rattle.topology.specs.Topology.{as_relay, node_at, nodes, server_at}
+pub use Rattle.topology.specs.Rules.{IsTopology}
+pub use Rattle.topology.specs.Topology.{as_nat, as_relay, node_at, nodes, server_at}
 pub use Rattle.topology.specs.declared.client_node.ClientNode.{ClientNode}
 pub use Rattle.topology.specs.declared.native_node.NativeNode.{NativeNode}
 pub use Rattle.topology.specs.declared.node.Node.{Node}
 pub use Rattle.topology.specs.declared.node.Node.TheVariants.{Client as client, Nat as nat, Native as native, Relay as relay, Server as server}
 pub use Rattle.topology.specs.declared.relay_node.RelayNode.{RelayNode}
 pub use Rattle.topology.specs.declared.topology.TheConstants.{NODES_MAX}
-pub use Rattle.td_chain.specs.Chains.{ChainsState}
+pub use Rattle.td_chain.specs.Chains.{ChainsStandFor, ChainsState, chain_out}
 pub use Rattle.history.specs.Full.{Full, udp}
 pub use Rattle.report.proofs.Joined.{alone, before}
 pub use Rattle.report.proofs.Printed.{length_after, printed}
@@ -43,7 +46,7 @@ pub use Rattle.report.specs.Lines.{node_text}
 pub use Rattle.legal.specs.Emit.{reach_node, route}
 pub use Rattle.legal.specs.Lab.{Draws, Lab}
 pub use Rattle.legal.specs.Next.{address_at, address_of}
-pub use Rattle.legal.specs.Past.{journal, now}
+pub use Rattle.legal.specs.Past.{journal, nat_pasts, now}
 pub use Rattle.legal.specs.Settings.{primary_of}
 pub use Rattle.theory_settled.specs.Clients.{asks_at, client_address}
 pub use Rattle.theory_origins.specs.Sources.{outermost}
@@ -63,6 +66,8 @@ pub use Rattle.theory_reaching.specs.FromNative.{from_native_row}
 pub use Rattle.theory_reaching.specs.Reach.{reach_between}
 unfoldable pub use Rattle.theory_reaching.specs.Reach.{reach_of}
 pub use Rattle.theory_reaching.specs.ReachLines.{Said, lines_of_said, said_from, said_line, said_of_all, said_of_each, said_total}
+pub use Rattle.theory_reaching.specs.Speaks.{is_from, way_to}
+unfoldable pub use Rattle.theory_reaching.specs.Speaks.{speaks_to}
 unfoldable pub use Rattle.theory_reaching.specs.ThroughRelay.{relayed}
 pub use Rattle.theory_reaching.specs.ToNative.{to_native_row}
 pub use Rattle.theory_reaching.specs.Words.{reach_word}

@@ -51,7 +51,7 @@ fn goes_to(route: Route, number: u16) -> bool
 }
 
 /// The primary endpoint of the server of a number.
-fn server_endpoint(topology: &Topology, number: u16) -> Ep
+pub fn server_endpoint(topology: &Topology, number: u16) -> Ep
     ensures { result ≡ server_ep (primary_of (server_at topology.now number)) }
 {
     match topology.node(usize::from(number)) {

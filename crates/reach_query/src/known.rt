@@ -1,5 +1,5 @@
 //! What a client or a relay knows of an address, by one look at its list: of an address that isn't listed nothing.
-ghost use Rattle.std.specs.Prelude.{◌≡◌, option_map, is_some};
+ghost use Rattle.std.specs.Prelude.{◌≡◌, length, option_map, is_some};
 ghost use Rattle.peer_list.specs.Judged.{is_fresh, is_trusted_at, is_barred, holds_most};
 ghost use Rattle.theory_reaching.specs.Conditions.{keeps_packets};
 ghost use Rattle.reach_query.specs.Looked.{known_of};
@@ -68,5 +68,15 @@ pub fn keeps_packets(peer: Option<&Peer>) -> bool
     match peer {
         None => false,
         Some(peer) => !peer.waiting().is_empty(),
+    }
+}
+
+/// How many packets wait for it.
+pub fn waiting(peer: Option<&Peer>) -> usize
+    ensures { result ≡ length (known_of (option_map (λ peer. peer.now) peer.entry)).waiting }
+{
+    match peer {
+        None => 0,
+        Some(peer) => peer.waiting().len(),
     }
 }

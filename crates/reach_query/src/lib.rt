@@ -21,6 +21,7 @@
 //! | `two_clients` | what the table of words asks of two clients, as far as it looks | `specs/Asked.antt`, `BetweenClients.antt` of `theory_reaching` |
 //! | `through_relay` | what the tables ask of a client, a native host and its relay, as far | `specs/Asked.antt`, `ThroughRelay.antt` of `theory_reaching` |
 //! | `hosts` | hosts and relays with what is kept of them; whether a client is settled | `specs/Hosts.antt` |
+//! | `speaking` | whether a client speaks to an endpoint | `Speaks.antt` of `theory_reaching` |
 //! | `known` | what one look at a list of peers tells of an address | `specs/Looked.antt` |
 //! | `reach_writer` | `ReachWriter` | `specs/ReachAccount.antt` |
 //! | `pair_line`, `pair_counts` | the line on two hosts; how many there are, by what is said of them | `specs/PairLines.antt` |
@@ -31,6 +32,7 @@ mod known;
 mod pair_counts;
 mod pair_line;
 mod reach_writer;
+mod speaking;
 mod through_relay;
 mod two_clients;
 mod two_hosts;

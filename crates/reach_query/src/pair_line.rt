@@ -11,7 +11,7 @@ use theory_reaching::Reach;
 use topology::{NAME_LEN, Topology};
 
 /// The most bytes of a word.
-const WORD_LEN: usize = 8;
+const WORD_LEN: usize = 9;
 
 /// Appends the name of the node with that number.
 fn put_name(topology: &Topology, number: u16, line: &mut LineBuf)

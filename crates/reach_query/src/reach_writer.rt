@@ -14,8 +14,9 @@ ghost use Rattle.reach_query.specs.PairLines.{counted_pairs, AreCountsWithin, Sa
 use crate::pair_counts::{PAIRS_MAX, PairCounts};
 use crate::pair_line::{pair_line, pairs_total};
 use crate::two_hosts::{is_host, word_on};
+use events::Event;
 use history::Record;
-use player::{Listener, WIRE_FULL_LINE};
+use player::{HearFault, Listener, WIRE_FULL_LINE};
 use sink_lines::write_line;
 use td_base::LineBuf;
 use td_outside::{Failed, Sink};
@@ -165,9 +166,10 @@ impl Listener for ReachWriter<'_> {
     fn hear<K: Sink>(
         &mut self,
         _world: &World,
+        _event: &Event,
         _said: &Record,
         _out: &mut K,
-    ) -> Result<(), Failed> {
+    ) -> Result<(), HearFault> {
         Ok(())
     }
 

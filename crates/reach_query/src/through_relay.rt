@@ -19,8 +19,9 @@ ghost use Rattle.world.specs.World.{StandsFor, lab_in};
 ghost use Rattle.reach_query.specs.Hosts.{IsClientHere, IsRelayHere};
 ghost use Rattle.reach_query.specs.Asked.{AreAlike};
 
-use crate::hosts::{ClientHere, RelayHere, is_let_in};
+use crate::hosts::{ClientHere, RelayHere, is_let_in, server_endpoint};
 use crate::known;
+use crate::speaking::speaks_to;
 use client_core::Client;
 use peer_list::PEERS_MAX;
 use relay_core::Relay;
@@ -115,6 +116,13 @@ fn relayed(world: &World<'_>, a: ClientHere<'_>, host: NativeNode, by: RelayHere
     let own = a.address();
     let on = a.is_on();
     let settled = a.is_settled(world);
+    let speaks = speaks_to(world, a, own, by.row.at);
+    let speaks_server = speaks_to(
+        world,
+        a,
+        own,
+        server_endpoint(world.topology(), a.row.server),
+    );
     let host_known = a.client.peer(now, host.six);
     let client_known = by.relay.peer(now, own);
     let fresh = known::is_fresh(host_known, now);
@@ -128,11 +136,12 @@ fn relayed(world: &World<'_>, a: ClientHere<'_>, host: NativeNode, by: RelayHere
     let room = have_room(now, a.client, by.relay, host.six, own);
     let room_for_both = has_room_for_both(asks, a.client, now, host.six, by.row.six);
     let holds_most = known::holds_most(host_known);
-    let keeps = known::keeps_packets(host_known);
     let relay_keeps = known::keeps_packets(client_known);
     Relayed {
         on,
         settled,
+        speaks,
+        speaks_server,
         fresh,
         trusted,
         listed,
@@ -144,7 +153,6 @@ fn relayed(world: &World<'_>, a: ClientHere<'_>, host: NativeNode, by: RelayHere
         room,
         room_for_both,
         holds_most,
-        keeps,
         relay_keeps,
     }
 }

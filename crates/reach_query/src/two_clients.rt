@@ -1,20 +1,17 @@
 //! Who reaches whom of two clients.
-ghost use Rattle.std.specs.Prelude.{◌≡◌, ◌≤◌, ◌||◌, ◌&&◌, not, List, option_map};
-ghost use Rattle.peer_list.specs.Judged.{is_barred};
+ghost use Rattle.std.specs.Prelude.{◌≡◌, ◌≤◌, ◌||◌, ◌&&◌, not, List};
 ghost use Rattle.client_core.specs.Client.{callable_from};
 ghost use Rattle.history.specs.Full.{Full};
 ghost use Rattle.legal.specs.Lab.{Draws};
-ghost use Rattle.theory_reaching.specs.Conditions.{is_settled, keeps_packets};
+ghost use Rattle.theory_reaching.specs.Conditions.{is_settled};
 ghost use Rattle.theory_reaching.specs.BetweenClients.{two_clients, between_clients_row};
 ghost use Rattle.world.specs.World.{StandsFor, lab_in};
 ghost use Rattle.reach_query.specs.Hosts.{IsClientHere};
-ghost use Rattle.reach_query.specs.Looked.{known_of};
 ghost use Rattle.reach_query.specs.Asked.{AreAlikeOfTwo};
 
 use crate::hosts::{ClientHere, is_let_in};
 use crate::known;
-use peer_list::Peer;
-use td_base::Millis;
+use crate::speaking::speaks_to;
 use teredo_addr::{embedded, has_cone};
 use theory_reaching::{Reach, TwoClients};
 use world::World;
@@ -29,20 +26,6 @@ fn are_settled(world: &World<'_>, a: ClientHere<'_>, b: ClientHere<'_>) -> bool
         return false;
     }
     b.is_settled(world)
-}
-
-/// Whether packets wait at one of two clients for the other, or the receiver is barred for the sender.
-fn are_known(now: Millis, there: Option<&Peer>, back: Option<&Peer>) -> bool
-    ensures { result ≡ (keeps_packets (known_of (option_map (λ peer. peer.now) there.entry))
-        || (keeps_packets (known_of (option_map (λ peer. peer.now) back.entry)) || is_barred now.0 (known_of (option_map (λ peer. peer.now) back.entry)))) }
-{
-    if known::keeps_packets(there) {
-        return true;
-    }
-    if known::keeps_packets(back) {
-        return true;
-    }
-    known::is_barred(back, now)
 }
 
 /// Whether a receiver is barred for a sender whose bubbles don't come straight to it: a cone one sends none there, and those of another one
@@ -72,6 +55,8 @@ fn two_clients(world: &World<'_>, a: ClientHere<'_>, b: ClientHere<'_>) -> TwoCl
     let other = b.address();
     let on = a.is_on();
     let there = b.is_on();
+    let same_address = own == other;
+    let speaks = speaks_to(world, a, own, embedded(other));
     let settled = are_settled(world, a, b);
     let nats = world.nats();
     let outer = nats.outermost(a.row.nat);
@@ -88,10 +73,12 @@ fn two_clients(world: &World<'_>, a: ClientHere<'_>, b: ClientHere<'_>) -> TwoCl
     let barred_back = known::is_barred(back_known, now);
     let let_in_back = is_let_in(world, barred_back, embedded(own), embedded(other), b.number);
     let barred_there = is_barred_there(barred_back, from_cone, let_in_back);
-    let known = are_known(now, there_known, back_known);
+    let waiting = known::waiting(back_known);
     TwoClients {
         on,
         there,
+        same_address,
+        speaks,
         settled,
         one_nat: outer == other_outer,
         heard,
@@ -101,7 +88,8 @@ fn two_clients(world: &World<'_>, a: ClientHere<'_>, b: ClientHere<'_>) -> TwoCl
         barred,
         room,
         barred_there,
-        known,
+        waiting,
+        peer_barred: barred_back,
         from_cone,
     }
 }

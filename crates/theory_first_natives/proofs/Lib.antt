@@ -1,7 +1,7 @@
 mod Words
 pub mod tables
 pub mod RelayEndpoint
-mod from_native
+pub mod from_native
 pub mod Apart
 mod NewToEachOther
 pub mod to_native

@@ -7,7 +7,7 @@ use Rattle.theory_first_natives.proofs.from_native.Trio.{Trio}
 use Rattle.theory_first_natives.proofs.from_native.TrioStages.{is_strange}
 use Rattle.theory_first_natives.proofs.from_native.TrioBoards as boards
 use Rattle.theory_first_natives.proofs.from_native.TrioBoards.{TrioRun, IsBound, Board}
-use Rattle.theory_first_natives.proofs.from_native.TrioStart.{bound_is, carried}
+use Rattle.theory_first_natives.proofs.from_native.TrioStart.{bound_is, of_next, carried}
 
 -- THE PREMISE
 
@@ -84,11 +84,11 @@ each_first lab H r later rules chained g n m k a h relay own x first fresh =
       rules = rules;
       chained = chained;
       grown = earlier lab later (r ∷ H) g;
-      packet = record {
+      packet = of_next p H r (record {
         nodes = may_meet lab H n m k a h relay own first.nodes;
         handed = first.handed;
         no_reply = first.no_reply;
-      };
+      }) refl;
       same = refl;
       sound = sound_first r later fresh;
     }) later g fresh) in

@@ -6,9 +6,9 @@ pub use Rattle.std.proofs.lemmas.Bool.Decides.{Decides-eqb, nat_tests}
 pub use Rattle.std.proofs.lemmas.List.{take_rest}
 pub use Rattle.std.proofs.lemmas.List.Elements.{Contains-push}
 pub use Rattle.std.specs.Cmp.Lexicographic.{pointwise, pointwise_decides}
-pub use Rattle.std.specs.List.{list_any}
+pub use Rattle.std.specs.List.{AllByRecursion, list_any}
 pub use Rattle.std.specs.Option.{option_or}
-pub use Rattle.std.specs.Prelude.{filter_map, is_some, nat_eq, nat_lt, option_to_list, slice_get, unwrap_or, ◌^◌, ◌≢◌}
+pub use Rattle.std.specs.Prelude.{filter_map, is_some, nat_eq, nat_le, nat_lt, option_and_then, option_to_list, slice_get, unwrap_or, ◌^◌, ◌≢◌}
 pub use Rattle.td_base.specs.Bytes.{IsBytes}
 pub use Rattle.td_base.specs.Ep.{IsEp, same_ep, same_ep-self, server_ep}
 pub use Rattle.td_base.specs.Ip4.{same_ip, same_ip-self, same_ip-true}
@@ -18,6 +18,7 @@ pub use Rattle.td_base.specs.declared.endpoint.Ep.{Ep}
 pub use Rattle.td_base.specs.declared.ipv4.Ip4.{Ip4}
 pub use Rattle.td_base.specs.declared.ipv6.Ip6.{Ip6}
 pub use Rattle.td_base.specs.declared.reach.Policy.TheVariants.{Strict}
+pub use Rattle.td_base.specs.declared.span.Span.{Span}
 pub use Rattle.ipv6_packet.proofs.LawProofs.{packet_is_bytes, packet_reads_back}
 pub use Rattle.ipv6_packet.specs.Laws.{ReadsPacket}
 pub use Rattle.ipv6_packet.specs.Packets.{Fields, IsPacket, packet_at, packet_bytes}
@@ -69,17 +70,19 @@ unfoldable pub use Rattle.peer_list.specs.Listed.{has_room, is_listed, listed, t
 pub use Rattle.peer_list.specs.Mentions.{Mention, is_about, is_peer, is_touch_of}
 pub use Rattle.peer_list.specs.Peers.{Peer, known, no_peer, peer_at}
 pub use Rattle.peer_list.specs.declared.held.Held.{Held}
-pub use Rattle.peer_list.specs.declared.limits.TheConstants.{FRESH_MS, LISTED_MS, PEERS_MAX}
+pub use Rattle.peer_list.specs.declared.limits.TheConstants.{FRESH_MS, HELD_MAX, LISTED_MS, PEERS_MAX}
 pub use Rattle.qualify.specs.Advertisements.{advert_row}
 pub use Rattle.qualify.specs.Qualification.{qualification}
 pub use Rattle.qualify.specs.Solicitations.{own_address}
 pub use Rattle.qualify.specs.Turns.{says_nothing, turn}
 pub use Rattle.qualify.specs.declared.settings.Settings.{Settings}
-pub use Rattle.client_rules.proofs.LawProofs.{next_mentions}
+pub use Rattle.client_rules.proofs.LawProofs.{fate_of_reception, next_mentions}
 pub use Rattle.client_rules.specs.Bearings.{bearing_of, held_of, mention, mentions, source_of}
 pub use Rattle.client_rules.specs.Journals.{client_out, entry}
 unfoldable pub use Rattle.client_rules.specs.Journals.{client_in}
-pub use Rattle.client_rules.specs.Reception.{Seen, is_from_server, is_reply_to, reception_row, seen_of}
+pub use Rattle.client_rules.specs.Reception.{Seen, is_from_server, is_reply_to, reception_fate, reception_row, reception_step, seen_of, tests_source}
+unfoldable pub use Rattle.client_rules.specs.Reception.{reception}
+pub use Rattle.client_rules.specs.Standing.{Standing, standing_of}
 unfoldable pub use Rattle.client_rules.specs.Standing.{standing_at}
 pub use Rattle.client_rules.specs.Transmission.{queues}
 pub use Rattle.client_rules.specs.Tries.{test_bytes, tries_by}
@@ -120,7 +123,7 @@ pub use Rattle.history.specs.Full.{Full, Item, Made, bytes_of, item_in, items_of
 pub use Rattle.legal.proofs.LawProofs.{deliveries, is_reached as each_is_reached, wire_is_made}
 pub use Rattle.legal.proofs.RouteEnds.{same_end}
 pub use Rattle.legal.specs.Deliveries.{Delivery, IsReached, to_nobody, to_node}
-pub use Rattle.legal.specs.Emit.{entry_of, handed_by, is_at_place, made_outright, native_made, outright, reaches, route, six_made}
+pub use Rattle.legal.specs.Emit.{entry_of, handed_by, is_at_place, made_outright, native_made, outright, part_of, reaches, route, six_made}
 pub use Rattle.legal.specs.Lab.{Lab}
 pub use Rattle.legal.specs.Legal.{Follows, Grown}
 pub use Rattle.legal.specs.MadeWire.{IsMadeItem}
@@ -133,6 +136,7 @@ pub use Rattle.theory_settled.proofs.ItsNodes.{primary_has, secondary_has}
 pub use Rattle.theory_settled.specs.Clients.{asks_at, client_address}
 pub use Rattle.theory_origins.specs.Sources.{outermost}
 pub use Rattle.theory_ways.proofs.LawProofs.{enters_by_its_way, is_let_in}
+pub use Rattle.theory_ways.specs.SettledAlong.{IsSettledAlong}
 pub use Rattle.theory_ways.specs.Ways.{IsChained, has_symmetric, is_all_cone, nat_of, nats_of}
 pub use Rattle.theory_first_packets.proofs.Deliveries.{Did, Handing}
 pub use Rattle.theory_first_packets.proofs.HandedIn.{IsHandedIn, sound_first}
@@ -157,7 +161,7 @@ pub use Rattle.theory_first_packets.proofs.tables.Known.{Touches, known_after, l
 pub use Rattle.theory_first_packets.proofs.tables.Lists.{each_so, last_there, one_longer}
 pub use Rattle.theory_first_packets.proofs.tables.Received.{entry_here}
 pub use Rattle.theory_first_packets.specs.AlongWays.{OfEachSchedule}
-pub use Rattle.theory_first_packets.specs.FirstPacket.{GoesBetween}
+pub use Rattle.theory_first_packets.specs.FirstPacket.{GoesBetween, HostHandsIn}
 pub use Rattle.theory_first_packets.specs.MayMeet.{known_by}
 pub use Rattle.theory_first_packets.specs.Schedules.{AreFresh, DeliversFresh, HasNoFault, IsComplete, SomeIs, is_fault}
 pub use Rattle.theory_first_natives.specs.FromNative.{ArrivesLate, FirstFromNativeArrivesAlong, HasArrivedLate}

@@ -9,6 +9,7 @@ pub mod ServerGives
 pub mod OneMoreListed
 pub mod ClientHere
 pub mod FromTrusted
+pub mod HandsNothing
 pub mod ClientTests
 pub mod ClientHands
 pub mod OthersKnown

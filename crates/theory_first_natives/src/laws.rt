@@ -52,7 +52,7 @@ pub fn histories_carry_from_natives()
 /// room for host and client, and keep no packets for them. The host isn't fresh at the client, which isn't barred for
 /// it. A relay that trusts the client is let in to it; one that must ask isn't barred for it, nor the client for the
 /// relay, and the client has room for both.
-/// Needs: a history of a topology that keeps its rules, and a chain that does; a packet that is neither a bubble nor an
+/// Needs: a history of a topology that keeps its rules, and a chain that does; a packet that is no bubble and may be an
 /// echo reply. The premise in `Relayed.antt` and `FromNative.antt`, schedules in `theory_first_packets/Schedules.antt`, a
 /// client settled along its way in `theory_ways/SettledAlong.antt`.
 /// Leaves open: the same of a fresh host, which `theory_reaching` has.
@@ -73,7 +73,7 @@ pub fn first_to_native_arrives()
 {}
 
 /// First packets to native hosts are carried at each record of every history, whatever comes after the schedule.
-/// Needs: a history of a topology that keeps its rules, and a chain that does; a packet that is neither a bubble nor an
+/// Needs: a history of a topology that keeps its rules, and a chain that does; a packet that is no bubble and may be an
 /// echo reply. The premise in `Relayed.antt` and `FromNative.antt`, schedules in `theory_first_packets/Schedules.antt`, a
 /// client settled along its way in `theory_ways/SettledAlong.antt`.
 pub fn histories_carry_to_natives()

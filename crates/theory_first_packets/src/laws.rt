@@ -9,8 +9,8 @@ ghost use Rattle.theory_first_packets.specs.NoRoom.{FullSenderDrops, FullReceive
 /// fresh at the sender, lists it or has room for it, and keeps no packet for it. A receiver whose address has no cone
 /// bit isn't barred for the sender either; and the sender isn't barred for it, lists it or has room for it, and keeps
 /// no packet for it. Whether one trusts the other, and what it tried before, is no matter beside that.
-/// Needs: a history of a topology that keeps its rules, and a chain that does. The premise in `AlongWays.antt`, the
-/// four parts in `FirstPacket.antt`, schedules in `Schedules.antt`, clients settled along their ways in
+/// Needs: a history of a topology that keeps its rules, and a chain that does. The premise in `AlongWays.antt`, what
+/// becomes of the packet in `FirstPacket.antt`, schedules in `Schedules.antt`, clients settled along their ways in
 /// `theory_ways/SettledAlong.antt`.
 /// Leaves open: what makes a client settled.
 pub fn next_packet_arrives_along()
@@ -20,8 +20,8 @@ pub fn next_packet_arrives_along()
 /// A first packet is carried in every fresh schedule after it, whichever NATs are behind others: within five
 /// deliveries, four from a cone client, one to a cone client; and it arrives where the schedule is complete. This holds
 /// whatever happened before.
-/// Needs: a history of a topology that keeps its rules, and a chain that does. The premise in `AlongWays.antt`, the
-/// four parts in `FirstPacket.antt`, schedules in `Schedules.antt`, clients settled along their ways in
+/// Needs: a history of a topology that keeps its rules, and a chain that does. The premise in `AlongWays.antt`, what
+/// becomes of the packet in `FirstPacket.antt`, schedules in `Schedules.antt`, clients settled along their ways in
 /// `theory_ways/SettledAlong.antt`.
 /// Leaves open: what makes a client settled.
 pub fn first_packet_arrives_along()
@@ -32,8 +32,8 @@ pub fn first_packet_arrives_along()
 /// with these fates in this order, and no others. There are six courses where neither address has the cone bit, one
 /// where only the sender's has it, and one where the receiver's has it. Two of the ways that it can go have the same
 /// fates: those in which the straight bubble comes third or fourth.
-/// Needs: a history of a topology that keeps its rules, and a chain that does. The premise in `AlongWays.antt`, the
-/// four parts in `FirstPacket.antt`, schedules in `Schedules.antt`, clients settled along their ways in
+/// Needs: a history of a topology that keeps its rules, and a chain that does. The premise in `AlongWays.antt`, what
+/// becomes of the packet in `FirstPacket.antt`, schedules in `Schedules.antt`, clients settled along their ways in
 /// `theory_ways/SettledAlong.antt`.
 /// Leaves open: what makes a client settled.
 pub fn takes_a_course_along()
@@ -59,13 +59,13 @@ pub fn strangers_may_meet()
 {}
 
 /// Where no NAT is behind another one, a first packet between settled clients behind different NATs is carried in every
-/// fresh schedule after it. A case of the first. It is stated in `FirstPacket.antt`, settled clients in
+/// fresh schedule after it. A case of `first_packet_arrives_along`. It is stated in `FirstPacket.antt`, settled clients in
 /// `theory_settled/Settled.antt`.
 pub fn first_packet_arrives()
     ensures { EachFirstPacketArrives }
 {}
 
-/// And takes one of the courses.
+/// And a complete schedule takes one of the courses.
 /// See `takes_a_course_along`.
 pub fn takes_a_course()
     ensures { EachTakesACourse }

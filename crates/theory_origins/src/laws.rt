@@ -14,7 +14,7 @@ ghost use Rattle.theory_origins.specs.Throughout.{HistoriesHaveOrigins, Scenario
 /// A datagram from an address of a server or a relay is that node's; from a NAT's, it is of a client whose way out ends
 /// there.
 /// Needs: a history of a topology that keeps its rules, in which no event puts a datagram onto the wire from an address
-/// of a node, and that no event puts a datagram onto the wire from an address of a node (`legal/Honest.antt`).
+/// of a node (`legal/Honest.antt`).
 pub fn own_sources()
     ensures { EachHasOwnSource }
 {}

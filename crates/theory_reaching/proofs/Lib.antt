@@ -13,5 +13,6 @@ mod relays
 mod to_native
 mod NextPacket
 mod waiting
+mod past_waiting
 mod EachWord
 pub mod LawProofs

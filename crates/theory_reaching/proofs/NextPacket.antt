@@ -1,5 +1,7 @@
 -- A packet that a host hands in, with all that follows it.
-use Rattle.theory_reaching.proofs.Words.{AreFresh, Full, Grown, IsChained, IsSentNext, IsTopology, Lab, List, Node, Some, ap, node_at, subst, ℕ, ◌++◌, ◌∙◌, ◌∷◌, ◌≡◌}
+use Rattle.theory_reaching.proofs.Words.{AreFresh, Full, Grown, IsChained, IsOver, IsSentNext, IsTopology, Lab, List, Node, Some, address_at, ap, host_hands, node_at, subst, ℕ, ◌++◌, ◌∙◌, ◌∷◌, ◌≡◌}
+use Rattle.theory_settled.proofs.Earlier.{earlier}
+use Rattle.theory_reaching.proofs.waiting.OverEvents.{IsWhole, not_handing, over_before}
 
 -- node n is a, and node m is b. In the record q after H the host of n hands in x for m, and the records `later` follow
 pub record NextPacket (a b : Node) : Type 0 where
@@ -17,6 +19,17 @@ pub record NextPacket (a b : Node) : Type 0 where
   pub to : node_at lab.topology m ≡ Some b
   pub sent : IsSentNext lab H q n m a x
   pub fresh : AreFresh q later
+
+-- the latest event before it is over
+pub over : {a b : Node} (the : NextPacket a b) → IsOver the.H
+over {a} the =
+    let follows = (earlier the.lab the.later (the.q ∷ the.H) the.g).0 in
+    let taken = host_hands the.lab the.H the.q the.n a (address_at the.lab the.H the.n) (address_at the.lab the.H the.m) the.x the.at follows
+    the.sent.handed in
+    over_before the.H the.q.asked follows.goes_on (not_handing the.lab the.H the.q.asked taken.verb the.n the.x taken.hands)
+
+pub whole : {a b : Node} (the : NextPacket a b) → IsWhole the.lab the.H
+whole the = record { grown = (earlier the.lab the.later (the.q ∷ the.H) the.g).1; over = over the }
 
 -- the same of nodes that are the same
 abbrev pub of_nodes : {a b c d : Node} → NextPacket a b → a ≡ c → b ≡ d → NextPacket c d

@@ -1,6 +1,8 @@
 -- Between clients.
 pub mod SettledClients
+pub mod LateLines
 pub mod MayMeetByWord
+pub mod PastWaiting
 pub mod GoesOn
 pub mod Further
 pub mod WithinBounds
@@ -23,3 +25,5 @@ pub mod FullAtReceiver
 pub mod FullSchedule
 pub mod SilentSender
 pub mod FullClients
+pub mod ToItself
+pub mod MovedClients

@@ -8,6 +8,8 @@ pub mod TestTried
 pub mod TestRelayed
 pub mod RoomForBoth
 pub mod KnownAfter
+pub mod RelayLets
+pub mod TrustedHost
 pub mod RelayAsks
 pub mod ClientDeaf
 pub mod NoRoomLeft

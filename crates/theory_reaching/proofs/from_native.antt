@@ -17,4 +17,7 @@ pub mod HeldUpThroughout
 pub mod HeldUpTold
 pub mod RoomForOne
 pub mod CrowdedBack
+pub mod AfterHeld
+pub mod HeldComes
+pub mod HeldByWord
 pub mod FullBack

@@ -7,3 +7,4 @@ pub mod WayStays
 pub mod TwoDeliveries
 pub mod OpensElsewhere
 pub mod OtherRecords
+pub mod AsManyAsMade

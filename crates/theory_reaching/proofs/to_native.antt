@@ -21,3 +21,5 @@ pub mod Unanswered
 pub mod UnansweredTest
 pub mod BarredOut
 pub mod FullOut
+pub mod OpeningLines
+pub mod MovedOutWord

@@ -16,7 +16,6 @@ from_native_lines a =
     ∷ (a.fresh && not a.trusted, word.Stale)
     ∷ ((not a.trusted && a.barred) || (a.asks && a.bubble_barred), word.Barred)
     ∷ (not a.room || ((not a.trusted && a.holds_most) || (a.asks && not a.room_for_both)), word.Full)
-    ∷ (a.asks && a.relay_keeps, word.Known)
     ∷ (a.trusted && a.asks, word.Within5)
     ∷ (a.trusted, word.Within2)
     ∷ (a.asks, word.Within9)

@@ -9,6 +9,7 @@ pub mod ReachLines
 pub mod Promises
 pub mod Silent
 pub mod Away
+pub mod Waiting
 pub mod Kept
 pub mod Speaks
 pub mod FinerWords

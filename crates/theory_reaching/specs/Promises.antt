@@ -1,6 +1,6 @@
 -- What each word on two hosts promises of the next packet from the one to the other, in whatever order the datagrams that it
 -- draws are delivered.
-use Rattle.std.specs.Prelude.{◌≡◌, ◌≤◌, ◌+◌, ◌⊎◌, ℕ, true, false, List, [], ◌∷◌, ◌++◌, length, Some}
+use Rattle.std.specs.Prelude.{◌≡◌, ◌≢◌, ◌≤◌, ◌+◌, ℕ, true, false, List, [], ◌∷◌, ◌++◌, length, Contains, Some}
 use Rattle.ipv6_packet.specs.Reads.{fields_in}
 use Rattle.bubble.specs.Messages.{message_in, is_echo_reply}
 use Rattle.teredo_node.specs.Fate.{is_drop}
@@ -21,11 +21,12 @@ use Rattle.legal.specs.Lab.{Lab}
 use Rattle.legal.specs.Next.{address_at}
 use Rattle.legal.specs.Legal.{Grown}
 use Rattle.theory_ways.specs.Ways.{IsChained}
-use Rattle.peer_list.specs.Judged.{holds_most}
+use Rattle.peer_list.specs.Judged.{held_from}
 use Rattle.theory_first_packets.specs.MayMeet.{known_by}
 use Rattle.theory_first_packets.specs.Schedules.{AreFresh, IsComplete, SomeIs, IsWithin}
 use Rattle.theory_first_packets.specs.FirstPacket.{HostHandsIn}
-use Rattle.theory_first_natives.specs.NextFromNative.{GivesToHost}
+use Rattle.theory_first_natives.specs.MayMeetThroughRelay.{must_ask}
+use Rattle.theory_first_natives.specs.NextFromNative.{GivesToHost, most_deliveries}
 use Rattle.theory_first_natives.specs.ToNative.{BringsToNative}
 use Rattle.theory_reaching.specs.declared.word.Reach.{Reach}
 use Rattle.theory_reaching.specs.declared.word.Reach.TheVariants as word
@@ -100,15 +101,25 @@ abbrev pub NoneComes : List Full → Full → ℕ → (a b : Node) → List ℕ 
 NoneComes H q m (client c) (native h) x later = NoneButItsTest H q m h x later
 NoneComes H q m _ b x later = IsShut m b x later
 
--- client m holds fewer than four packets of the native host, or it would be `full` if it did
-abbrev pub IsFullOtherwise : Lab → List Full → ℕ → NativeNode → ClientNode → Type 0
-IsFullOtherwise lab H m h d = (holds_most (known_by H m h.six) ≡ false) ⊎ ((r : RelayNode) → relay_at lab.topology h.relay ≡ Some r
-    → from_native_row (record (relayed lab H m d h r) { holds_most = false }) ≡ word.Full)
+-- *held packet*, of a client: a packet that is handed in has the bytes of one that the client holds of the native host from its relay, and the
+-- four that it holds are all that makes it `full`. The client tests the host anew, and hands over what it held once that answers.
+-- x is, byte for byte, one that client m, which is d, holds of the host from the host's relay; with fewer than four held there would be room
+pub record ComesWithHeld (lab : Lab) (H : List Full) (m : ℕ) (h : NativeNode) (d : ClientNode) (x : List ℕ) : Type 0 where
+  pub via : RelayNode
+  pub through : relay_at lab.topology h.relay ≡ Some via
+  pub held : Contains (held_from via.at (known_by H m h.six).held) x
+  pub alone : from_native_row (record (relayed lab H m d h via) { holds_most = false }) ≢ word.Full
 
--- where there is no room. A client that holds four packets of a native host tests the host anew, and hands over what it holds once that
--- answers: this packet may be among it, byte for byte. So nothing is said where the four alone make it `full`
+-- a native host's packet comes with what the client holds, by the 6th delivery, or by the 9th where the relay must hear from the client first, and
+-- else never
+pub record NoneButHeld (lab : Lab) (H : List Full) (q : Full) (m : ℕ) (h : NativeNode) (d : ClientNode) (x : List ℕ) (later : List Full)
+    : Type 0 where
+  pub held : ComesWithHeld lab H m h d x → ComesInTime H q m (client d) x later (most_deliveries (must_ask H h.relay (address_at lab H m)))
+  pub others : (ComesWithHeld lab H m h d x → ⊥) → IsShut m (client d) x later
+
+-- where there is no room none comes, but for those two
 abbrev pub NoneHasRoom : Lab → List Full → Full → ℕ → (a b : Node) → List ℕ → List Full → Type 0
-NoneHasRoom lab H q m (native h) (client d) x later = IsFullOtherwise lab H m h d → IsShut m (client d) x later
+NoneHasRoom lab H q m (native h) (client d) x later = NoneButHeld lab H q m h d x later
 NoneHasRoom lab H q m a b x later = NoneComes H q m a b x later
 
 -- *promise of a word*: what it says of each fresh schedule after the next packet: that this comes within so many
@@ -117,6 +128,8 @@ NoneHasRoom lab H q m a b x later = NoneComes H q m a b x later
 abbrev pub IsPromised : Lab → List Full → Full → ℕ → (a b : Node) → List ℕ → List Full → Reach → Type 0
 IsPromised lab H q m a b x later word.Off = IsDroppedAtOnce q later
 IsPromised lab H q m a b x later word.Away = IsDroppedAtOnce q later
+IsPromised lab H q m a b x later word.OneAddress = IsShut m b x later
+IsPromised lab H q m a b x later word.Moved = IsShut m b x later
 IsPromised lab H q m a b x later word.OneNat = IsShut m b x later
 IsPromised lab H q m a b x later word.Full = NoneHasRoom lab H q m a b x later
 IsPromised lab H q m a b x later word.Stale = NoneComes H q m a b x later
@@ -126,7 +139,13 @@ IsPromised lab H q m a b x later word.Within2 = ComesInTime H q m b x later 2
 IsPromised lab H q m a b x later word.Within4 = ComesInTime H q m b x later 4
 IsPromised lab H q m a b x later word.Within5 = ComesInTime H q m b x later 5
 IsPromised lab H q m a b x later word.Within6 = ComesInTime H q m b x later 6
+IsPromised lab H q m a b x later word.Within7 = ComesInTime H q m b x later 7
+IsPromised lab H q m a b x later word.Within8 = ComesInTime H q m b x later 8
 IsPromised lab H q m a b x later word.Within9 = ComesInTime H q m b x later 9
+IsPromised lab H q m a b x later word.Within10 = ComesInTime H q m b x later 10
+IsPromised lab H q m a b x later word.Within11 = ComesInTime H q m b x later 11
+IsPromised lab H q m a b x later word.Within12 = ComesInTime H q m b x later 12
+IsPromised lab H q m a b x later word.Within13 = ComesInTime H q m b x later 13
 IsPromised lab H q m a b x later _ = Unit {0}
 
 -- after this history of this laboratory the word keeps it

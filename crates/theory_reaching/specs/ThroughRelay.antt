@@ -14,6 +14,8 @@ use Rattle.legal.specs.Next.{address_at}
 use Rattle.theory_first_packets.specs.MayMeet.{known_by}
 use Rattle.theory_first_natives.specs.MayMeetThroughRelay.{known_by_relay, trusts_client, must_ask}
 pub use Rattle.theory_reaching.specs.declared.relay_table.Relayed.{Relayed}
+use Rattle.theory_settled.specs.Clients.{asks_at}
+use Rattle.theory_reaching.specs.Speaks.{speaks_to}
 use Rattle.theory_reaching.specs.Conditions.{is_on, is_led_to, is_settled, peers_of, clients_of, keeps_packets, has_room_for_both}
 
 -- client n, which is c, with this address, and native h with its relay, which is r
@@ -24,6 +26,8 @@ relayed_with lab H n c h r own =
     record {
       on = is_on lab H n c;
       settled = is_settled lab H n c;
+      speaks = speaks_to lab H c own r.at;
+      speaks_server = speaks_to lab H c own (asks_at lab c);
       fresh = is_fresh (now H) host;
       trusted = is_trusted_at r.at host;
       listed = is_listed own (now H) (clients_of H h.relay);
@@ -35,7 +39,6 @@ relayed_with lab H n c h r own =
       room = has_room (peers_of H n) (now H) h.six && has_room (clients_of H h.relay) (now H) own;
       room_for_both = has_room_for_both (peers_of H n) (now H) h.six r.six;
       holds_most = holds_most host;
-      keeps = keeps_packets host;
       relay_keeps = keeps_packets client;
     }
 

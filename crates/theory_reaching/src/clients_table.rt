@@ -11,6 +11,10 @@ pub struct TwoClients {
     pub on: bool,
     /// The receiver is.
     pub there: bool,
+    /// Both have one address.
+    pub same_address: bool,
+    /// The sender speaks to the receiver's endpoint.
+    pub speaks: bool,
     /// Both are settled along their ways.
     pub settled: bool,
     /// Their outermost NATs are one.
@@ -29,8 +33,10 @@ pub struct TwoClients {
     pub room: bool,
     /// The receiver is barred for the sender, whose bubbles don't come straight to it: none goes there, or none is let in.
     pub barred_there: bool,
-    /// Packets wait at one of them for the other, or the receiver is barred for the sender.
-    pub known: bool,
+    /// So many packets wait at the receiver for the sender: it is barred for it then.
+    pub waiting: usize,
+    /// The receiver is barred for the sender.
+    pub peer_barred: bool,
     /// The sender's address has the cone bit.
     pub from_cone: bool,
 }
@@ -48,6 +54,12 @@ impl TwoClients {
         }
         if !self.there {
             return Reach::Away;
+        }
+        if self.same_address {
+            return Reach::OneAddress;
+        }
+        if (self.fresh || self.to_cone) && (!self.speaks && (!self.one_nat && self.heard)) {
+            return Reach::Moved;
         }
         if !self.settled {
             return Reach::Lost;
@@ -73,7 +85,31 @@ impl TwoClients {
         if self.barred_there {
             return Reach::Barred;
         }
-        if self.known {
+        if self.waiting == 1 {
+            return Reach::Within6;
+        }
+        if self.waiting == 2 {
+            return Reach::Within7;
+        }
+        if self.waiting == 3 {
+            return Reach::Within8;
+        }
+        if self.waiting == 4 {
+            return Reach::Within9;
+        }
+        if self.waiting == 5 {
+            return Reach::Within10;
+        }
+        if self.waiting == 6 {
+            return Reach::Within11;
+        }
+        if self.waiting == 7 {
+            return Reach::Within12;
+        }
+        if self.waiting == 8 {
+            return Reach::Within13;
+        }
+        if self.peer_barred {
             return Reach::Known;
         }
         if self.from_cone {

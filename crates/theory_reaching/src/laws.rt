@@ -1,8 +1,9 @@
 //! Laws of the words: which keep what they promise, in every history.
 ghost use Rattle.theory_reaching.specs.Kept.{WordsAreKept};
+ghost use Rattle.theory_reaching.specs.Waiting.{ClientKeptBack};
 ghost use Rattle.theory_reaching.specs.MovedStraight.{MovedBetweenClients, MovedToNatives, GoneElsewhere, MovedTests};
 ghost use Rattle.theory_reaching.specs.Promises.{KeepsItsPromise, KeepsBetweenClients, KeepsFromNatives, KeepsToNatives};
-ghost use Rattle.theory_reaching.specs.declared.word.Reach.TheVariants.{Full, Stale, Barred, Within1, Within2, Within4, Within5, Within6, Within9};
+ghost use Rattle.theory_reaching.specs.declared.word.Reach.TheVariants.{OneAddress, Moved, Full, Stale, Barred, Within1, Within2, Within4, Within5, Within6, Within7, Within8, Within9, Within10, Within11, Within12, Within13};
 
 /// Where it is `barred` between two clients, no fresh schedule brings the packet: the sender sends nothing; or the
 /// receiver, which may not answer yet, gets its bubbles through its server alone.
@@ -44,10 +45,11 @@ pub fn barred_from_native_is_kept()
     ensures { KeepsFromNatives Barred }
 {}
 
-/// Where it is `full` of a native host on a client that holds fewer than four packets of the host, or would be if it
-/// did, nothing brings the packet: the client keeps it for itself or drops it, or it stays at the relay.
-/// Leaves open: a client that has room, and only holds four packets of the host. It tests the host anew, and hands over
-/// what it holds: the packet may be among it, byte for byte, as in the example `held_packet`.
+/// Where it is `full` of a native host on a client, nothing brings the packet: the client keeps it for itself or drops
+/// it, or it stays at the relay. If only the four packets that the client holds of the host make it `full`, the client
+/// tests the host anew, and hands over those that came from the host's relay. A packet with the bytes of one of these
+/// comes by the sixth delivery, or by the ninth where the relay must ask for the client; it is so in the example
+/// `held_packet`. No other one does.
 pub fn full_from_native_is_kept()
     ensures { KeepsFromNatives Full }
 {}
@@ -107,22 +109,49 @@ pub fn within_nine_is_kept()
     ensures { KeepsItsPromise Within9 }
 {}
 
+/// Where it is `within 7` or more between two clients, so that the receiver keeps two packets or more for the sender, a
+/// complete fresh schedule hands the packet to the receiver's host within so many deliveries: five, and one more for
+/// each packet that is kept; so does one that has so many. `within 6` and `within 9` are said of them too. It is so in
+/// whatever order the sender's two bubbles come: the receiver, which is barred for it, answers none through its server
+/// before it was let in the straight one; there it lets go what it kept, and the first of it brings the packet.
+/// Leaves open: that anything is delivered.
+pub fn past_waiting_is_kept()
+    ensures { KeepsItsPromise Within7 × KeepsItsPromise Within8 × KeepsItsPromise Within10 × KeepsItsPromise Within11
+        × KeepsItsPromise Within12 × KeepsItsPromise Within13 }
+{}
+
+/// Where it is `moved`, no fresh schedule brings the packet, of two clients or to a native host, be it a test or not:
+/// it goes at once, or draws a test, and its client doesn't speak to where that goes. Nobody has to be settled. It
+/// speaks of the next packet alone: the client's next refresh may give it another address.
+pub fn moved_is_kept()
+    ensures { KeepsBetweenClients Moved × KeepsToNatives Moved }
+{}
+
+/// Where it is `self`, both clients have one address: the sender drops the packet, and nothing brings it.
+pub fn self_is_kept()
+    ensures { KeepsBetweenClients OneAddress }
+{}
+
 /// A packet that goes at once to where its client doesn't speak to, is brought by no fresh schedule: it leaves from
 /// elsewhere than its source says, or is refused by a NAT, and whoever gets it drops it. So it is between clients,
 /// where the receiver is fresh or has the cone bit, and to a native host that is trusted at its relay; and of a packet
 /// for a native host that is trusted where neither a server nor a relay answers, or that isn't fresh, where the client
 /// doesn't speak to its own server, to which the test goes. It is stated in `MovedStraight.antt`, what a client speaks
-/// to in `Speaks.antt`. No word rests on it yet.
+/// to in `Speaks.antt`. The word `moved` rests on it.
 /// Needs: a history of a topology that keeps its rules; nobody has to be settled.
 pub fn moved_straight_is_kept()
     ensures { MovedBetweenClients × MovedToNatives × GoneElsewhere × MovedTests }
 {}
 
+/// Where an event is over, a client is barred for each peer for which packets wait at it: no tick of it is late.
+pub fn client_kept_back()
+    ensures { ClientKeptBack }
+{}
+
 /// Each word keeps its promise, after each history, on each pair of its hosts, of every packet; and what is said of
 /// `off`, `away` and a barred sender holds too. `lost` and `known` promise nothing. It is stated in `Kept.antt`, with
 /// the promises in `Promises.antt`.
-/// Needs: a history of a topology that keeps its rules, and a chain that does; of `full` of a native host on a client,
-/// that it isn't so only because of the four packets that this holds of it.
+/// Needs: a history of a topology that keeps its rules, and a chain that does.
 pub fn words_are_kept()
     ensures { WordsAreKept }
 {}

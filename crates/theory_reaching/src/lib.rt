@@ -6,7 +6,8 @@
 //! - The words, their texts, and what a word says: that the packet comes, that it doesn't, or nothing (`specs/Words.antt`).
 //! - The word on two hosts after a history (`specs/Reach.antt`): that of the first line whose condition holds, in one of
 //!   three tables, from a client to another one (`specs/BetweenClients.antt`), to a native host (`specs/ToNative.antt`) and from
-//!   one (`specs/FromNative.antt`). The conditions are those of `specs/Conditions.antt` and `specs/ThroughRelay.antt`.
+//!   one (`specs/FromNative.antt`). The conditions are those of `specs/Conditions.antt`, `specs/ThroughRelay.antt` and
+//!   `specs/Speaks.antt`.
 //! - The lines of all pairs, with their sums (`specs/ReachLines.antt`).
 //! - What a word promises of each packet, whatever the order of deliveries (`specs/Promises.antt`); of `off`, `away` and `barred` more
 //!   than that (`specs/Silent.antt`, `specs/Away.antt`). Each word keeps it: `words_are_kept` says it of one laboratory and one history
@@ -53,11 +54,12 @@ mod word;
 
 pub use clients_table::TwoClients;
 pub use laws::{
-    barred_client_is_kept, barred_from_native_is_kept, barred_to_native_is_kept,
-    full_client_is_kept, full_from_native_is_kept, full_to_native_is_kept, moved_straight_is_kept,
-    stale_client_is_kept, stale_from_native_is_kept, stale_to_native_is_kept, within_five_is_kept,
-    within_four_is_kept, within_nine_is_kept, within_one_is_kept, within_six_is_kept,
-    within_two_is_kept, words_are_kept,
+    barred_client_is_kept, barred_from_native_is_kept, barred_to_native_is_kept, client_kept_back,
+    full_client_is_kept, full_from_native_is_kept, full_to_native_is_kept, moved_is_kept,
+    moved_straight_is_kept, past_waiting_is_kept, self_is_kept, stale_client_is_kept,
+    stale_from_native_is_kept, stale_to_native_is_kept, within_five_is_kept, within_four_is_kept,
+    within_nine_is_kept, within_one_is_kept, within_six_is_kept, within_two_is_kept,
+    words_are_kept,
 };
 pub use relay_table::Relayed;
 pub use unreached::{

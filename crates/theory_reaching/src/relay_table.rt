@@ -12,6 +12,10 @@ pub struct Relayed {
     pub on: bool,
     /// It is settled along its way.
     pub settled: bool,
+    /// It speaks to the relay's endpoint.
+    pub speaks: bool,
+    /// It speaks to its own server's primary endpoint.
+    pub speaks_server: bool,
     /// The native is fresh at the client.
     pub fresh: bool,
     /// The client trusts the native at the relay's endpoint.
@@ -34,9 +38,7 @@ pub struct Relayed {
     pub room_for_both: bool,
     /// The client holds as many packets of the native as it may.
     pub holds_most: bool,
-    /// Packets wait at the client for the native.
-    pub keeps: bool,
-    /// And at the relay for the client.
+    /// Packets wait at the relay for the client.
     pub relay_keeps: bool,
 }
 
@@ -48,6 +50,12 @@ impl Relayed {
     {
         if !self.on {
             return Reach::Off;
+        }
+        if self.fresh && (self.trusted && !self.speaks) {
+            return Reach::Moved;
+        }
+        if !self.fresh && !self.speaks_server {
+            return Reach::Moved;
         }
         if !self.settled {
             return Reach::Lost;
@@ -69,9 +77,6 @@ impl Relayed {
         }
         if !self.room || (self.asks && !self.room_for_both) {
             return Reach::Full;
-        }
-        if self.keeps || (self.asks && self.relay_keeps) {
-            return Reach::Known;
         }
         if self.asks {
             return Reach::Within9;
@@ -106,9 +111,6 @@ impl Relayed {
             || ((!self.trusted && self.holds_most) || (self.asks && !self.room_for_both))
         {
             return Reach::Full;
-        }
-        if self.asks && self.relay_keeps {
-            return Reach::Known;
         }
         if self.trusted && self.asks {
             return Reach::Within5;

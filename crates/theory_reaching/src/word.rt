@@ -9,6 +9,11 @@ pub enum Reach {
     Off,
     /// The receiver isn't.
     Away,
+    /// Both clients have one address.
+    OneAddress,
+    /// The sender doesn't speak to where the packet goes first: it leaves from elsewhere than the sender's address says, or
+    /// is refused by a NAT.
+    Moved,
     /// A client isn't settled along its way.
     Lost,
     /// Both are behind one outermost NAT.
@@ -28,7 +33,13 @@ pub enum Reach {
     Within4,
     Within5,
     Within6,
+    Within7,
+    Within8,
     Within9,
+    Within10,
+    Within11,
+    Within12,
+    Within13,
 }
 
 /// What a word says of the packet.
@@ -52,6 +63,8 @@ impl Reach {
         match self {
             Reach::Off => "off",
             Reach::Away => "away",
+            Reach::OneAddress => "self",
+            Reach::Moved => "moved",
             Reach::Lost => "lost",
             Reach::OneNat => "one_nat",
             Reach::Full => "full",
@@ -63,7 +76,13 @@ impl Reach {
             Reach::Within4 => "within 4",
             Reach::Within5 => "within 5",
             Reach::Within6 => "within 6",
+            Reach::Within7 => "within 7",
+            Reach::Within8 => "within 8",
             Reach::Within9 => "within 9",
+            Reach::Within10 => "within 10",
+            Reach::Within11 => "within 11",
+            Reach::Within12 => "within 12",
+            Reach::Within13 => "within 13",
         }
     }
 
@@ -73,11 +92,14 @@ impl Reach {
         ensures { result ≡ reach_class self }
     {
         match self {
-            Reach::Off | Reach::Away | Reach::OneNat => ReachClass::Shut,
+            Reach::Off | Reach::Away | Reach::OneAddress => ReachClass::Shut,
+            Reach::Moved | Reach::OneNat => ReachClass::Shut,
             Reach::Full | Reach::Stale | Reach::Barred => ReachClass::Shut,
             Reach::Lost | Reach::Known => ReachClass::Unsaid,
             Reach::Within1 | Reach::Within2 | Reach::Within4 => ReachClass::Within,
-            Reach::Within5 | Reach::Within6 | Reach::Within9 => ReachClass::Within,
+            Reach::Within5 | Reach::Within6 | Reach::Within7 => ReachClass::Within,
+            Reach::Within8 | Reach::Within9 | Reach::Within10 => ReachClass::Within,
+            Reach::Within11 | Reach::Within12 | Reach::Within13 => ReachClass::Within,
         }
     }
 }

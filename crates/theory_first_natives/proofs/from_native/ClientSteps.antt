@@ -1,12 +1,13 @@
 -- The steps at the client: what a delivery to it leaves.
-use Rattle.theory_first_natives.proofs.Words.{Arrival, At, ComesIn, Delivery, Did, Entry, Ep, Ip4, Ip6, IsElsewhere, IsHere, Journal, List, MayTest, None, ReadsPayload, Settings, Some, [], address_stays, all_leaves, ap, arrival, asks_at, client, client_in, each_is_reached, embedded, false, false_from_ne_true, false≢true, fields_in, from_no_server, has_room, is_big, is_bubble, is_echo_reply, is_from_server, is_global6, is_teredo, is_trusted_at, journal, known, mentions, message_in, nats_of, nonce_from, now, qualification, releases, same_ip6, same_ip6-true, send, sent, server_elsewhere, setup, subst, sym, test_bytes, true, turn, udp, value_written, with_entry, words, ℕ, ◌∙◌, ◌∷◌, ◌≡◌}
+use Rattle.theory_first_natives.proofs.Words.{AllByRecursion, Arrival, At, Bool, ComesIn, Delivery, Did, Entry, Ep, Ip4, Ip6, IsElsewhere, IsHere, Journal, List, None, ReadsPayload, Send, Settings, Some, [], address_stays, all_leaves, ap, arrival, asks_at, client, client_in, each_is_reached, embedded, false, false_from_ne_true, false≢true, fields_in, from_no_server, has_room, holds_most, is_big, is_bubble, is_echo_reply, is_from_server, is_global6, is_teredo, is_trusted_at, journal, known, mentions, message_in, nats_of, nonce_from, now, qualification, refl, releases, same_ip6, same_ip6-true, says_nothing, send, sent, server_elsewhere, setup, subst, sym, test_bytes, true, turn, udp, value_written, with_entry, words, ℕ, ◌∙◌, ◌∷◌, ◌≡◌}
 use Rattle.theory_first_natives.proofs.tables.ClientTests as tests
-use Rattle.theory_first_natives.proofs.tables.ClientTests.{IsFromNative, IsTestable}
+use Rattle.theory_first_natives.proofs.tables.ClientTests.{IsFromNative, IsTestable, MayBeTested}
 use Rattle.theory_first_natives.proofs.tables.ClientHands as hands
 use Rattle.theory_first_natives.proofs.tables.FromTrusted.{IsFromTrusted}
 use Rattle.theory_first_natives.proofs.tables.NativeReads.{answer}
-use Rattle.theory_first_natives.proofs.from_native.Trio.{IsTrio, no_primary, no_secondary, native_keeps}
-use Rattle.theory_first_natives.proofs.from_native.TrioStages.{HostStays}
+use Rattle.theory_first_natives.proofs.tables.NativeTables.{tested_by}
+use Rattle.theory_first_natives.proofs.from_native.Trio.{IsTrio, no_primary, no_secondary, native_keeps, relay_elsewhere}
+use Rattle.theory_first_natives.proofs.from_native.TrioStages.{HostStays, leaves_for_relay}
 use Rattle.theory_first_natives.proofs.from_native.TrioAfter.{TrioRecord, here, let_in, sends}
 
 module _ (the : TrioRecord) where
@@ -74,41 +75,51 @@ module _ (the : TrioRecord) where
     peer_is host = ap (λ (z : Ip6). known (mentions j.entries) (now H) z) src ∙ host.same
 
     testable : HostStays p H → is_trusted_at p.r.at p.of_host ≡ false → is_bubble (fields_in x) ≡ false
-        → is_echo_reply (message_in (fields_in x)) ≡ false → IsTestable s j (now H) p.r.at (fields_in x) from_native
+        → is_echo_reply (message_in (fields_in x)) ≡ false → IsTestable s j (now H) p.r.at (fields_in x) from_native (holds_most p.of_host)
     testable host untrusted plain no_reply = record {
       untrusted = ap (is_trusted_at p.r.at) (peer_is host) ∙ untrusted;
-      may = subst (MayTest (now H)) (sym (peer_is host)) (host.may_test untrusted);
+      may = subst (MayBeTested (now H)) (sym (peer_is host)) (host.may_test untrusted);
+      kept = ap holds_most (peer_is host);
       room = ap (λ (z : Ip6). has_room (mentions j.entries) (now H) z) src ∙ host.room;
       no_bubble = plain;
       no_reply = no_reply;
     }
 
-    -- it is held, and a test goes to the client's server
+    -- a test goes to the client's server
     pub tests_native : Did p.lab H q p.a.n (client p.a.c) got → HostStays p H → is_trusted_at p.r.at p.of_host ≡ false → is_bubble (fields_in x) ≡ false
         → is_echo_reply (message_in (fields_in x)) ≡ false → ReadsPayload (value_written None None (fields_in x)) x
         → (q.made ≡ sent (udp (embedded own) (asks_at p.lab p.a.c) (test_bytes own p.h.six nonce)) ∷ [])
-        × tests.TestsIt s j (now H) p.r.at (fields_in x) from_native x nonce got
+        × tests.TestsIt s j (now H) p.r.at (fields_in x) from_native (holds_most p.of_host) x nonce got
         × ((qualification s (with_entry j got)).address ≡ (qualification s j).address)
     tests_native did host untrusted plain no_reply payload =
-        let g = tests.tests_it s j (now H) p.r.at (fields_in x) from_native (testable host untrusted plain no_reply) x payload (words p.lab p.a.n H) in
+        let g = tests.tests_it s j (now H) p.r.at (fields_in x) from_native (holds_most p.of_host) (testable host untrusted plain no_reply) x payload
+        (words p.lab p.a.n H) in
         let gone = all_leaves p.lab H q p.a got (sends the got did) (send (asks_at p.lab p.a.c) (test_bytes own p.h.six nonce) ∷ [])
         (g.sends ∙ ap (λ (z : Ip6). send (asks_at p.lab p.a.c) (test_bytes z (fields_in x).src nonce) ∷ []) dst
         ∙ ap (λ (z : Ip6). send (asks_at p.lab p.a.c) (test_bytes own z nonce) ∷ []) src)
         (server_far, tt) in
-        (gone.made, g, address_stays s j got (ap turn g.fate))
+        (gone.made, g, address_stays s j got (ap turn g.fate ∙ says_none (holds_most p.of_host))) where
+          says_none : (full : Bool) → turn (tested_by full) ≡ says_nothing
+          says_none true = refl
+          says_none false = refl
 
     -- THE REPLY TO THE TEST
 
-    -- the client believes the native, and hands over what it held. Where nothing waits it sends nothing
+    all_elsewhere : (ws : List (List ℕ)) → AllByRecursion (λ (u : Send). IsElsewhere p.lab u.to.ip (nats_of p.lab p.a.c)) (releases p.r.at ws)
+    all_elsewhere [] = tt
+    all_elsewhere (w ∷ ws) = (relay_elsewhere p is, all_elsewhere ws)
+
+    -- the client believes the native, hands over what it held, and lets go what waits
     pub hands_packet : Did p.lab H q p.a.n (client p.a.c) got → (n : ℕ) → hands.Waits s j (now H) p.r.at (fields_in x) from_native n
         → message_in (fields_in x) ≡ Some (answer n) → ReadsPayload (value_written None None (fields_in x)) x
         → hands.HandsLate s j (now H) p.r.at (fields_in x) from_native n got
-        × ((known (mentions j.entries) (now H) (fields_in x).src).waiting ≡ [] → q.made ≡ [])
+        × (q.made ≡ leaves_for_relay p (known (mentions j.entries) (now H) (fields_in x).src).waiting)
         × ((qualification s (with_entry j got)).address ≡ (qualification s j).address)
     hands_packet did n waits message payload =
         let g = hands.hands_late_it s j (now H) p.r.at (fields_in x) from_native n waits message x payload (words p.lab p.a.n H) in (
           g,
-          λ none. (all_leaves p.lab H q p.a got (sends the got did) [] (g.sends ∙ ap (releases p.r.at) none) tt).made,
+          (all_leaves p.lab H q p.a got (sends the got did) (releases p.r.at (known (mentions j.entries) (now H) (fields_in x).src).waiting) g.sends
+              (all_elsewhere (known (mentions j.entries) (now H) (fields_in x).src).waiting)).made,
           address_stays s j got (ap turn g.fate),
         )
 

@@ -1,5 +1,5 @@
 -- A record that follows at once: what it leaves of the ground.
-use Rattle.theory_first_natives.proofs.Words.{ComesIn, Did, DoesSend, Entry, Ep, Fields, Follows, Full, HasNoFault, IsCalmNext, IsHere, IsLetIn, IsMadeItem, Item, Journal, LeavesNats, List, None, Ok, ReadsPayload, Some, all_at, ap, asks_at, bytes_of, client, client_address, embedded, enters_along, is_here, is_let_in, journal, native, nats_of, now, packet_at, packet_is_payload, qualification, refl, relay, server, setup, slice_get, still_in, two_kinds, value_written, wire, wire_is_made, with_entry, ℕ, ◌∙◌, ◌∷◌, ◌≡◌}
+use Rattle.theory_first_natives.proofs.Words.{ComesIn, Contains, Did, DoesSend, Entry, Ep, Fields, Follows, Full, GivesToHost, HasNoFault, IsCalmNext, IsHere, IsLetIn, IsMadeItem, Item, Journal, LeavesNats, List, None, Ok, Option, ReadsPayload, Some, [], all_at, ap, arith, asks_at, bytes_of, client, client_address, embedded, enters_along, false≢true, inl, inr, is_here, is_let_in, is_some, journal, native, nats_of, now, packet_at, packet_is_payload, qualification, refl, relay, server, setup, slice_get, still_in, subst, sym, two_kinds, unwrap_or, value_written, wire, wire_is_made, with_entry, ℕ, ◌<◌, ◌∙◌, ◌∷◌, ◌≡◌, ◌⊎◌}
 use Rattle.theory_first_natives.proofs.Apart.{is_server_node, is_relay_node, is_native_node}
 use Rattle.theory_first_natives.proofs.from_native.Trio.{Trio, IsTrio}
 use Rattle.theory_first_natives.proofs.from_native.TrioStages.{Ground, IsOpen}
@@ -39,6 +39,20 @@ module _ (the : TrioRecord) where
   pub no_server_relay : p.a.c.server ≡ p.k → ⊥
   no_server_relay = two_kinds p.lab.topology p.a.c.server p.k (server r.trio.end.server_row) (relay p.r) is_server_node
       r.trio.end.server_is r.trio.relay_there refl refl
+
+  -- a record of another node hands the client's host nothing
+  pub of_another : (k : ℕ) → q.node ≡ Some k → (k ≡ p.a.n → ⊥) → GivesToHost p.a.n p.x q → ⊥
+  of_another k node apart gives = apart (ap (λ (o : Option ℕ). unwrap_or o k) (sym node ∙ gives.node))
+
+  -- nor does one that hands nothing over
+  pub of_none : q.handed ≡ None → q.late ≡ [] → GivesToHost p.a.n p.x q → ⊥
+  of_none handed late gives = by gives.packet where
+    nowhere : Contains [] p.x → ⊥
+    nowhere i = let within : i.0 < 0 = i.1 in omega (arith, within)
+
+    by : (q.handed ≡ Some p.x) ⊎ Contains q.late p.x → ⊥
+    by (inl over) = false≢true (ap (λ (o : Option (List ℕ)). is_some o) (sym handed ∙ over))
+    by (inr one) = nowhere (subst (λ (xs : List (List ℕ)). Contains xs p.x) late one)
 
   pub next_is : LeavesNats p.lab q → q.moment ≡ now H → IsCalmNext p.lab H q
   next_is calm moment = record { follows = r.follows; calm = calm; moment = moment }

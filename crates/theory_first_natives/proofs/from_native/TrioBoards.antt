@@ -1,17 +1,21 @@
 -- A fresh schedule, delivery by delivery: each brings the packet one step nearer.
-use Rattle.theory_first_natives.proofs.Words.{AreFresh, AreOpen, ArrivesLate, Bool, Contains, Contains-push, DeliversFresh, Delivery, Follows, Full, GivesInTime, GivesToHost, GivesWithin, Grown, HasArrivedLate, IsComplete, List, Some, SomeIs, [], ap, arith, at_most_last, deliveries, false, false≢true, fields_in, inl, inr, is_echo_reply, is_open, is_trusted_at, length, message_in, nat_tests, refl, some_so, subst, suc, sym, true, wire, with_next, within_longer, without_last, zero, ℕ, ◌++◌, ◌+◌, ◌==◌, ◌∙◌, ◌∷◌, ◌≡◌, ◌≤◌, ◌⊎◌}
+use Rattle.theory_first_natives.proofs.Words.{AreFresh, AreOpen, ArrivesLate, Bool, Contains, Contains-push, DeliversFresh, Delivery, Follows, Full, GivesInTime, GivesToHost, GivesWithin, Grown, HasArrivedLate, IsComplete, List, Peer, Some, SomeIs, [], ap, arith, at_most_last, cond, deliveries, false, false≢true, fields_in, held_from, holds_most, inl, inr, is_echo_reply, is_open, is_trusted_at, length, message_in, nat_tests, refl, some_so, subst, suc, sym, true, wire, with_next, within_longer, without_last, zero, ℕ, ◌++◌, ◌+◌, ◌==◌, ◌∙◌, ◌∷◌, ◌≡◌, ◌≤◌, ◌⊎◌}
 use Rattle.theory_first_natives.proofs.from_native.Trio.{Trio, IsTrio}
 use Rattle.theory_first_natives.proofs.from_native.TrioStages.{is_strange, Stage, must_wait, goes_straight, bubbles, tells, answers, comes, tests, asks, echoes, replies, has_come}
-use Rattle.theory_first_natives.proofs.from_native.TrioStages.{Ground, Next, goes_on, ends, brings}
+use Rattle.theory_first_natives.proofs.from_native.TrioStages.{Ground, HandsHeld, Next, goes_on, ends, brings, parts}
 use Rattle.theory_first_natives.proofs.from_native.TrioAfter.{TrioRecord, IsRecord}
 use Rattle.theory_first_natives.proofs.from_native.TrioSteps.{at_relay, waits_at_relay, at_server, at_relay_again}
 use Rattle.theory_first_natives.proofs.from_native.TrioStepsOnward.{at_client, at_client_packet}
-use Rattle.theory_first_natives.proofs.from_native.TestSteps.{test_at_server, at_native, reply_at_relay, at_end}
+use Rattle.theory_first_natives.proofs.from_native.TestSteps.{nothing_kept, holds_few, test_at_server, at_native, reply_at_relay, at_end}
 
 -- what arrives late has come
 late_has_come : (n : ℕ) (x : List ℕ) (later : List Full) → HasArrivedLate n x later → SomeIs (GivesToHost n x) later
 late_has_come n x = some_so (ArrivesLate n x) (GivesToHost n x) (λ (q : Full) (a : ArrivesLate n x q).
     record { node = a.node; packet = inr (subst (λ (ys : List (List ℕ)). Contains ys x) (sym a.packet) (Contains-push [] x)) })
+
+-- a stranger's packets aren't held
+strangers_hold_few : (k : Peer) → is_strange k ≡ true → holds_most k ≡ false
+strangers_hold_few k e = holds_few k (nothing_kept k e).1
 
 -- a test and its answer are four deliveries, which are spared where the client trusts the native at the relay
 pub record IsBound (trusted : Bool) (total most : ℕ) : Type 0 where
@@ -46,11 +50,50 @@ module _ (the : TrioRun) where
     pub stage : Stage p (after later) last later left
     pub sum : length later + left ≡ total
     pub early : trusts ≡ true → 5 ≤ left
+    pub silent : holds_most p.of_host ≡ true → SomeIs (GivesToHost p.a.n p.x) later → ⊥
 
-  -- the packet is on its way, or came from one that is no stranger
+  -- the client, which held as many packets of the native as it may, handed over these alone: the latest record before `rest`, within the bound.
+  -- Until then nothing was handed over, and every entry was delivered
+  pub record Parted (later : List Full) : Type 0 where
+    pub full : holds_most p.of_host ≡ true
+    pub untrusted : trusts ≡ false
+    pub rest : List Full
+    pub handing : Full
+    pub first : List Full
+    pub split : later ≡ rest ++ handing ∷ first
+    pub few : suc (length first) ≤ most
+    pub hands : HandsHeld p (after first) handing
+    pub silent : SomeIs (GivesToHost p.a.n p.x) first → ⊥
+    pub last : ℕ
+    pub long : length (wire (after first)) ≡ suc last
+    pub are : AreOpen r.first last false false (handing ∷ first)
+
+  -- the packet is on its way, or came from one that is no stranger, or only what was held came
   pub data Course (later : List Full) : Type 0 where
     on_way : Board later → Course later
-    came : GivesWithin most p.a.n p.x later → is_strange p.of_host ≡ false → Course later
+    came : GivesWithin most p.a.n p.x later → is_strange p.of_host ≡ false → (trusts ≡ true) ⊎ (holds_most p.of_host ≡ false) → Course later
+    parted : Parted later → Course later
+
+  still_silent : (q : Full) (later : List Full) → (GivesToHost p.a.n p.x q → ⊥) → (SomeIs (GivesToHost p.a.n p.x) later → ⊥)
+      → SomeIs (GivesToHost p.a.n p.x) (q ∷ later) → ⊥
+  still_silent q later none before (inl it) = none it
+  still_silent q later none before (inr come) = before come
+
+  more : (q : Full) (later : List Full) → Parted later → Parted (q ∷ later)
+  more q later so_far = record {
+    full = so_far.full;
+    untrusted = so_far.untrusted;
+    rest = q ∷ so_far.rest;
+    handing = so_far.handing;
+    first = so_far.first;
+    split = ap (λ (qs : List Full). q ∷ qs) so_far.split;
+    few = so_far.few;
+    hands = so_far.hands;
+    silent = so_far.silent;
+    last = so_far.last;
+    long = so_far.long;
+    are = so_far.are;
+  }
 
   -- the test goes out only where the client doesn't trust the native there
   not_four : (H : List Full) (last : ℕ) (later : List Full) (k : ℕ) → Stage p H last later k → k ≡ 4 → trusts ≡ false
@@ -63,7 +106,7 @@ module _ (the : TrioRun) where
   not_four H last later _ (tests nonce at holds trusted way untrusted) e = untrusted
   not_four H last later _ (asks nonce at holds trusted way) e = absurd (omega (arith, e))
   not_four H last later _ (echoes nonce at holds trusted way) e = absurd (omega (arith, e))
-  not_four H last later _ (replies nonce at holds way) e = absurd (omega (arith, e))
+  not_four H last later _ (replies nonce at holds trusted way) e = absurd (omega (arith, e))
   not_four H last later _ (has_come come) e = absurd (omega (arith, e))
 
   still_early : (H : List Full) (last : ℕ) (later : List Full) (k : ℕ) → Stage p H last later (suc k) → (trusts ≡ true → 5 ≤ suc (suc k)) → trusts ≡ true
@@ -113,12 +156,12 @@ module _ (the : TrioRun) where
     advance _ opened (tests nonce at holds trusts way untrusted) d = test_at_server latest nonce board.last later d board.long at holds trusts way
     advance _ opened (asks nonce at holds trusts way) d = at_native latest nonce board.last later d board.long at holds trusts way
     advance _ opened (echoes nonce at holds trusts way) d = reply_at_relay latest nonce board.last later d board.long at holds trusts way
-    advance _ opened (replies nonce at holds way) d = at_end latest nonce board.last later d board.long at holds way
+    advance _ opened (replies nonce at holds trusts way) d = at_end latest nonce board.last later d board.long at holds trusts way
     advance _ opened (has_come come) d = absurd (false≢true opened)
 
     moves : {left : ℕ} → AreOpen r.first board.last false (is_open left) later → length later + left ≡ total → (trusts ≡ true → 5 ≤ left)
         → q.delivered ≡ Some board.last → Next p H q board.last later left → Course (q ∷ later)
-    moves are sum early by (goes_on k ground long stage) = on_way (record {
+    moves are sum early by (goes_on k ground long stage none) = on_way (record {
       last = suc board.last;
       left = suc k;
       ground = ground;
@@ -127,8 +170,9 @@ module _ (the : TrioRun) where
       stage = stage;
       sum = omega (arith, sum);
       early = still_early (q ∷ H) (suc board.last) (q ∷ later) k stage early;
+      silent = λ full. still_silent q later none (board.silent full);
     })
-    moves are sum early by (ends ground long stage) = on_way (record {
+    moves are sum early by (ends ground long stage few) = on_way (record {
       last = board.last;
       left = 0;
       ground = ground;
@@ -137,14 +181,29 @@ module _ (the : TrioRun) where
       stage = stage;
       sum = omega (arith, sum);
       early = λ trusted. absurd (let low = early trusted in omega (arith, low));
+      silent = λ full. absurd (false≢true (sym few ∙ full));
     })
-    moves are sum early by (brings k gives known) = came (record {
+    moves are sum early by (brings k gives known however) = came (record {
       rest = [];
       first = q ∷ later;
       split = refl;
       few = one_within (length later) k sum early;
       comes = inl gives;
-    }) known
+    }) known however
+    moves are sum early by (parts k full untrusted hands) = parted (record {
+      full = full;
+      untrusted = untrusted;
+      rest = [];
+      handing = q;
+      first = later;
+      split = refl;
+      few = one_within (length later) k sum early;
+      hands = hands;
+      silent = board.silent full;
+      last = board.last;
+      long = board.long;
+      are = without_last r.first board.last q later false are by;
+    })
 
     pub next_course : Course (q ∷ later)
     next_course = by (board.are.only fresh.number fresh.new
@@ -161,12 +220,14 @@ module _ (the : TrioRun) where
   course is no_reply (q ∷ later) g fresh board = by (course is no_reply later g.1 fresh.1 board) where
     by : Course later → Course (q ∷ later)
     by (on_way so_far) = next_course is no_reply later so_far q fresh.0 g.0
-    by (came so_far known) = came (within_longer (GivesToHost p.a.n p.x) most q later so_far) known
+    by (came so_far known however) = came (within_longer (GivesToHost p.a.n p.x) most q later so_far) known however
+    by (parted so_far) = parted (more q later so_far)
 
   -- a packet of a stranger is on its way
   pub of_stranger : (later : List Full) → is_strange p.of_host ≡ true → Course later → Board later
   of_stranger later e (on_way board) = board
-  of_stranger later e (came so_far known) = absurd (false≢true (sym known ∙ e))
+  of_stranger later e (came so_far known however) = absurd (false≢true (sym known ∙ e))
+  of_stranger later e (parted so_far) = absurd (false≢true (sym (strangers_hold_few p.of_host e) ∙ so_far.full))
 
   -- so there are no more deliveries than that
   pub few : (later : List Full) → Board later → length later ≤ total
@@ -183,10 +244,10 @@ module _ (the : TrioRun) where
       by _ (tells at keeps may) shut = absurd (shut refl)
       by _ (answers at keeps host way) shut = absurd (shut refl)
       by _ (comes at trusted host way) shut = absurd (shut refl)
-      by _ (tests nonce at holds trusts way untrusted) shut = absurd (shut refl)
-      by _ (asks nonce at holds trusts way) shut = absurd (shut refl)
-      by _ (echoes nonce at holds trusts way) shut = absurd (shut refl)
-      by _ (replies nonce at holds way) shut = absurd (shut refl)
+      by _ (tests nonce at holds trusted way untrusted) shut = absurd (shut refl)
+      by _ (asks nonce at holds trusted way) shut = absurd (shut refl)
+      by _ (echoes nonce at holds trusted way) shut = absurd (shut refl)
+      by _ (replies nonce at holds trusted way) shut = absurd (shut refl)
       by _ (has_come come) shut = come
 
     -- no entry is where all are delivered, and where so many deliveries were
@@ -214,7 +275,22 @@ module _ (the : TrioRun) where
       enough = λ many. has_come_by (when_shut (used_up many));
     }
 
-  -- it comes in time
-  pub in_time : (later : List Full) → Course later → GivesInTime before r p.a.n p.x later most
-  in_time later (on_way board) = in_time_on_way later board
-  in_time later (came so_far known) = record { whole = λ all. so_far; enough = λ many. so_far }
+  -- what was held comes, and the packet with it where it is among that
+  with_held : (later : List Full) → Parted later → Contains (held_from p.r.at p.of_host.held) p.x → GivesWithin most p.a.n p.x later
+  with_held later so_far held = record {
+    rest = so_far.rest;
+    first = so_far.handing ∷ so_far.first;
+    split = so_far.split;
+    few = so_far.few;
+    comes = inl (record { node = so_far.hands.node; packet = inr (subst (λ (ys : List (List ℕ)). Contains ys p.x) (sym (late_is so_far)) held) });
+  } where
+    late_is : (is : Parted later) → is.handing.late ≡ held_from p.r.at p.of_host.held
+    late_is is = is.hands.late ∙ ap (λ (b : Bool). cond b (held_from p.r.at p.of_host.held) (held_from p.r.at p.of_host.held ++ p.x ∷ [])) is.full
+
+  -- it comes in time, also where the client holds as many packets as it may, if it is one of them
+  pub in_time : (later : List Full) → Course later
+      → (trusts ≡ false → holds_most p.of_host ≡ true → Contains (held_from p.r.at p.of_host.held) p.x) → GivesInTime before r p.a.n p.x later most
+  in_time later (on_way board) held = in_time_on_way later board
+  in_time later (came so_far known however) held = record { whole = λ all. so_far; enough = λ many. so_far }
+  in_time later (parted so_far) held =
+      let comes = with_held later so_far (held so_far.untrusted so_far.full) in record { whole = λ all. comes; enough = λ many. comes }

@@ -1,5 +1,5 @@
 -- The steps of a packet from a native host: what each delivery leaves.
-use Rattle.theory_first_natives.proofs.Words.{Arrival, At, Delivery, Full, Ip6, IsCalmNext, List, Some, Strict, [], ap, asks_at, at_same_moment, bubble_bytes, cone_along, embedded, false, fields_in, has_cone, is_big, is_global6, is_packet, is_reachable, is_teredo, journal, length, nats_of, now, one_more, other_journal, refl, relay, relay_settings, same_ip, sent, server_ep, server_in, six, suc, true, udp, wire, ℕ, ◌∙◌, ◌∷◌, ◌≡◌}
+use Rattle.theory_first_natives.proofs.Words.{Arrival, At, Delivery, Full, GivesToHost, Ip6, IsCalmNext, List, Some, Strict, [], ap, asks_at, at_same_moment, bubble_bytes, cone_along, embedded, false, fields_in, has_cone, is_big, is_global6, is_packet, is_reachable, is_teredo, journal, length, nats_of, now, one_more, other_journal, refl, relay, relay_settings, same_ip, sent, server_ep, server_in, six, suc, true, udp, wire, ℕ, ◌∙◌, ◌∷◌, ◌≡◌}
 use Rattle.theory_first_natives.proofs.from_native.Trio.{IsTrio, no_loop, native_keeps}
 use Rattle.theory_first_natives.proofs.tables.RelayGives as gives
 use Rattle.theory_first_natives.proofs.from_native.RelaySteps.{reachable, comes_by_six, comes_by_datagram, goes_at_once, trusts_on, goes_to_cone, waits_there, bubble_frees}
@@ -7,7 +7,7 @@ use Rattle.theory_first_natives.proofs.from_native.OnItsWay.{bubble_at_server}
 use Rattle.theory_first_natives.proofs.tables.ServerTells.{told}
 use Rattle.theory_first_natives.proofs.from_native.TrioStages.{OnSix, HostStaysAt, HostStays, MayHearAt, MayHear, RelayAsks, RelayKeepsAt, RelayKeeps, TrustsClient, IsOpen}
 use Rattle.theory_first_natives.proofs.from_native.TrioStages.{SendsAtOnce, to_trusted, to_cone, bubbles, tells, comes, Next, goes_on}
-use Rattle.theory_first_natives.proofs.from_native.TrioAfter.{TrioRecord, no_relay_client, no_server_client, no_server_relay, next_is, still_open, ground_on, same_address}
+use Rattle.theory_first_natives.proofs.from_native.TrioAfter.{TrioRecord, no_relay_client, no_server_client, no_server_relay, next_is, of_another, still_open, ground_on, same_address}
 
 module _ (the : TrioRecord) where
   open the use {p, H, q, r}
@@ -49,12 +49,15 @@ module _ (the : TrioRecord) where
     next : IsCalmNext p.lab H q
     next = next_is the came.calm came.did.moment
 
+    silent : GivesToHost p.a.n p.x q → ⊥
+    silent = of_another the p.k came.did.node (no_relay_client the)
+
     -- it goes on to the client
     goes_on_there : HostStays p H → IsOpen p H → (q.made ≡ sent (udp p.r.at (embedded own) p.x) ∷ []) × TrustsClient p (q ∷ H) → Next p H q last later 6
     goes_on_there host way g =
         let more = one_more H q last (udp p.r.at (embedded own) p.x) long g.0 in
         goes_on 4 (ground_on the next (same_address the same)) more.longer
-        (comes more.at g.1 (at_same_moment (HostStaysAt p) H q p.a.n (journal p.a.n H) came.did.moment same host) (still_open the next way))
+        (comes more.at g.1 (at_same_moment (HostStaysAt p) H q p.a.n (journal p.a.n H) came.did.moment same host) (still_open the next way)) silent
 
     pub at_relay : SendsAtOnce p H → HostStays p H → Next p H q last later 6
     at_relay (to_trusted trusts way) host =
@@ -73,7 +76,7 @@ module _ (the : TrioRecord) where
         asks.nothing_waits refl in
         let more = one_more H q last (udp p.r.at (server_ep (server_in own)) (bubble_bytes p.r.six own)) long g.0 in
         goes_on 7 (ground_on the next (same_address the same)) more.longer
-        (bubbles more.at g.1 (at_same_moment (MayHearAt p) H q p.a.n (journal p.a.n H) came.did.moment same hear))
+        (bubbles more.at g.1 (at_same_moment (MayHearAt p) H q p.a.n (journal p.a.n H) came.did.moment same hear)) silent
 
   -- the relay's bubble, at the server
   pub at_server : (last : ℕ) (later : List Full) → Delivery p.lab H q last → length (wire H) ≡ suc last
@@ -88,6 +91,7 @@ module _ (the : TrioRecord) where
       (tells more.at
       (at_same_moment (RelayKeepsAt p) H q p.k (journal p.k H) came.moment relays keeps)
       (at_same_moment (MayHearAt p) H q p.a.n (journal p.a.n H) came.moment same may))
+      (of_another the p.a.c.server came.node (no_server_client the))
 
   -- the client's bubble, at the relay
   pub at_relay_again : (last : ℕ) (later : List Full) → Delivery p.lab H q last → length (wire H) ≡ suc last
@@ -101,3 +105,4 @@ module _ (the : TrioRecord) where
       let same = client_stays p.k came.did.node (no_relay_client the) in
       goes_on 4 (ground_on the next (same_address the same)) more.longer
       (comes more.at g.1.trusted (at_same_moment (HostStaysAt p) H q p.a.n (journal p.a.n H) came.did.moment same host) (still_open the next way))
+      (of_another the p.k came.did.node (no_relay_client the))

@@ -1,5 +1,6 @@
 -- The steps of a packet from a native host at the client, from where this hears of the relay until it tests the host.
-use Rattle.theory_first_natives.proofs.Words.{Arrival, At, Bool, Delivery, Entry, Ep, Full, Ip6, Journal, List, None, Option, Peer, ReadsPayload, Some, ap, asks_at, at_same_moment, bubble_bytes, client, embedded, false, false≢true, fields_in, inl, is_echo_reply, is_ep, is_none, is_some, is_trusted_at, journal, length, message_in, not, now, one_more, other_journal, read_as, refl, setup, suc, sym, true, udp, value_written, wire, with_entry, words, ℕ, ◌&&◌, ◌∙◌, ◌≡◌}
+use Rattle.theory_first_natives.proofs.Words.{Arrival, At, Bool, Delivery, Entry, Ep, Full, Ip6, Journal, List, None, Option, Peer, ReadsPayload, Some, Span, ap, asks_at, at_same_moment, bubble_bytes, client, embedded, false, false≢true, fields_in, holds_most, inl, is_echo_reply, is_ep, is_none, is_some, is_trusted_at, journal, length, message_in, not, now, one_more, option_and_then, other_journal, part_of, read_as, refl, setup, suc, sym, true, udp, value_written, wire, with_entry, words, ℕ, ◌&&◌, ◌∙◌, ◌≡◌}
+use Rattle.teredo_node.specs.declared.fate.Fate.TheVariants as fate
 use Rattle.theory_first_natives.proofs.from_native.Trio.{IsTrio}
 use Rattle.theory_first_natives.proofs.Apart.{sixes_apart}
 use Rattle.theory_first_natives.proofs.tables.ClientKnows as knows
@@ -7,9 +8,10 @@ use Rattle.theory_first_natives.proofs.from_native.ClientSteps as steps
 use Rattle.theory_first_natives.proofs.from_native.BubbleSteps as bubble_steps
 use Rattle.theory_first_natives.proofs.tables.ServerTells.{told}
 use Rattle.theory_first_natives.proofs.tables.FromTrusted.{handed_at_once}
+use Rattle.theory_first_natives.proofs.tables.HandsNothing.{hands_nothing}
 use Rattle.theory_first_natives.proofs.from_native.TrioStages.{test_of, is_strange, HostStaysAt, HostStays, MayHear, HoldsAt, RelayKeepsAt, RelayKeeps}
 use Rattle.theory_first_natives.proofs.from_native.TrioStages.{TrustsClientAt, TrustsClient, IsOpen, answers, tests, Next, goes_on, brings}
-use Rattle.theory_first_natives.proofs.from_native.TrioAfter.{TrioRecord, payload, no_relay_client, next_is}
+use Rattle.theory_first_natives.proofs.from_native.TrioAfter.{TrioRecord, payload, no_relay_client, next_is, of_none}
 use Rattle.theory_first_natives.proofs.from_native.TrioAfter.{still_open, ground_on, same_after}
 
 -- who is trusted anywhere is no stranger
@@ -38,6 +40,7 @@ module _ (the : TrioRecord) where
   at_client last later d long at keeps may =
       let came = steps.comes_to_client the last (asks_at p.lab p.a.c) (told p is) d at r.ground.way in
       let g = bubble_steps.answers_bubble the may.room may.unbarred came.did in
+      let none = hands_nothing (setup p.lab p.a) j (now H) (asks_at p.lab p.a.c) (told p is) (words p.lab p.a.n H) fate.Indirect g.2 refl in
       let more = one_more H q last (udp (embedded own) p.r.at (bubble_bytes own p.r.six)) long g.0 in
       let next = next_is the came.calm came.did.moment in
       let relays = other_journal p.lab H q p.a.n p.k came.did.node (λ same. no_relay_client the (sym same)) in
@@ -51,6 +54,8 @@ module _ (the : TrioRecord) where
         may_test = may.host.may_test;
       }))
       g.1)
+      (of_none the (came.did.handed ∙ ap (λ (o : Option Span). option_and_then (part_of (bubble_steps.heard the).input) o) none.handed)
+      (came.did.late ∙ none.late))
 
   -- the packet, at the client
   module _ (last : ℕ) (later : List Full) (d : Delivery p.lab H q last) (long : length (wire H) ≡ suc last) (at : At H last p.r.at (embedded own) p.x)
@@ -64,7 +69,7 @@ module _ (the : TrioRecord) where
     abbrev got : Entry
     got = steps.got the p.x is.packet.source is.packet.destination is.small
 
-    -- from where the native isn't trusted it is held, and the native is tested
+    -- from where the native isn't trusted the native is tested, and the packet is held, or the client holds as many as it may
     is_held : is_trusted_at p.r.at p.of_host ≡ false → Next p H q last later 5
     is_held untrusted =
         let nonce = steps.nonce the p.x is.packet.source is.packet.destination is.small in
@@ -80,6 +85,7 @@ module _ (the : TrioRecord) where
           p = p.h.six;
           about = g.1.about ∙ ap (λ (z : Ip6). Some z) is.packet.source;
           moment = g.1.moment;
+          full = holds_most p.of_host;
           fate_is = g.1.fate;
           peer = p.of_host;
           was = host.same;
@@ -94,9 +100,11 @@ module _ (the : TrioRecord) where
           tested = h.tested;
           untrusted = h.trust ∙ untrusted;
           stale = h.fresh ∙ (host.may_test untrusted).stale;
+          before = untrusted;
         }))
         (at_same_moment (TrustsClientAt p) H q p.k (journal p.k H) came.did.moment relays trusts)
         (still_open the next way) untrusted)
+        (of_none the (came.did.handed ∙ ap (λ (o : Option Span). option_and_then (part_of got.input) o) g.1.handed) (came.did.late ∙ g.1.late))
 
     -- else it is handed over at once
     is_handed : is_trusted_at p.r.at p.of_host ≡ true → Next p H q last later 5
@@ -104,7 +112,7 @@ module _ (the : TrioRecord) where
       node = came.did.node;
       packet = inl (came.did.handed ∙ handed_at_once (setup p.lab p.a) j (now H) p.r.at p.x
           (steps.from_trusted the p.x is.packet.source is.packet.destination is.small reads is.packet.no_bubble host trusted) (words p.lab p.a.n H));
-    }) (no_stranger p.r.at p.of_host trusted)
+    }) (no_stranger p.r.at p.of_host trusted) (inl trusted)
 
     pub at_client_packet : Next p H q last later 5
     at_client_packet = by (is_trusted_at p.r.at p.of_host) refl where

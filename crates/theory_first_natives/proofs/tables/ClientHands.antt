@@ -1,5 +1,5 @@
 -- What a client does with the reply to its test: it believes the native, hands over what it held from there, and lets go what waits.
-use Rattle.theory_first_natives.proofs.Words.{Decides-eqb, Entry, Ep, Fields, IsTested, Journal, List, Message, None, Option, Peer, ReadsPayload, Settings, Some, Words, advert_row, ap, big_bytes, client_in, entry_here, false, held_from, is_fresh, is_listed, is_reply_to, is_trusted_at, known, listed_is_known, mentions, message_in, nat_eq, pointwise, pointwise_decides, refl, releases, standing_at, subst, sym, true, value_written, ℕ, ◌∙◌, ◌≡◌}
+use Rattle.theory_first_natives.proofs.Words.{Decides-eqb, Entry, Ep, Fields, IsTested, Journal, List, Message, None, Option, Peer, ReadsPayload, Settings, Some, Words, advert_row, ap, big_bytes, client_in, entry_here, false, held_from, is_fresh, is_listed, is_reply_to, is_trusted_at, known, listed_is_known, mentions, message_in, nat_eq, pointwise, pointwise_decides, refl, releases, source_of, standing_at, subst, sym, true, value_written, ℕ, ◌∙◌, ◌≡◌}
 use Rattle.teredo_node.specs.declared.fate.Fate.TheVariants as fate
 use Rattle.theory_first_packets.proofs.tables.Received.{seen_here}
 use Rattle.theory_first_natives.proofs.tables.NativeTables.{test_is_answered}
@@ -40,6 +40,8 @@ module _ (s : Settings) (j : Journal) (n : ℕ) (at : Ep) (p : Fields) (is : IsF
     pub sends : e.step.sends ≡ releases at peer.waiting
     pub about : e.peer ≡ Some p.src
     pub moment : e.moment ≡ n
+    pub came : source_of e.input ≡ Some at
+    pub handed : e.step.handed ≡ None
 
   pub hands_late_it : Waits → message_in p ≡ Some (answer nonce) → (x : List ℕ) → ReadsPayload (value_written None None p) x → (w : Words)
       → HandsLate (client_in s j n at x w)
@@ -54,4 +56,6 @@ module _ (s : Settings) (j : Journal) (n : ℕ) (at : Ep) (p : Fields) (is : IsF
         sends = refl;
         about = refl;
         moment = refl;
+        came = refl;
+        handed = refl;
       })

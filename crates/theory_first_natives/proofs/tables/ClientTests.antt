@@ -1,8 +1,8 @@
--- What a client does with a packet of a native that it may test: it holds the packet, and tests the native.
-use Rattle.theory_first_natives.proofs.Words.{Bool, Entry, Ep, Fields, Ip6, IsForClient, IsHere, IsSuspect, Journal, List, MayTest, Message, None, Option, ReadsPayload, Seen, Settings, Some, Value, Words, [], address_is, advert_row, and_left, ap, arrived, client_in, cond, drop, echo_reply, echo_request, embedded, entry_here, false, false≢true, has_room, is_big, is_bubble, is_confirmed, is_echo_reply, is_from_server, is_global6, is_keyed, is_reply_to, is_teredo, is_trusted_at, known, mentions, message_in, nonce_from, nonce_of_words, other, own_address, packet_in, qualification, refl, router_advert, router_solicit, same_ep, same_ip6, same_ip6-self, seen_of, send, server_ep, standing_at, subst, sym, test, test_bytes, true, value_in, value_written, ℕ, ◌∙◌, ◌∷◌, ◌≡◌}
-use Rattle.teredo_node.specs.declared.fate.Fate.TheVariants as fate
+-- What a client does with a packet of a native that it may test: it tests the native, and holds the packet, unless it holds as many of the
+-- native as it may.
+use Rattle.theory_first_natives.proofs.Words.{Bool, Entry, Ep, Fields, Ip6, IsForClient, IsHere, IsSuspect, Journal, List, Message, None, Option, Peer, ReadsPayload, Seen, Settings, Some, Value, Words, [], address_is, advert_row, and_left, ap, arrived, client_in, cond, drop, echo_reply, echo_request, embedded, entry, entry_here, false, false≢true, has_room, holds_most, is_barred, is_big, is_bubble, is_confirmed, is_echo_reply, is_fresh, is_from_server, is_global6, is_keyed, is_reply_to, is_teredo, is_trusted_at, known, mentions, message_in, nonce_from, nonce_of_words, other, own_address, packet_in, qualification, reception_step, refl, router_advert, router_solicit, same_ep, same_ip6, same_ip6-self, seen_of, send, server_ep, standing_at, subst, sym, test, test_bytes, tests_source, true, value_in, value_written, ℕ, ◌∙◌, ◌∷◌, ◌≡◌}
 use Rattle.theory_first_packets.proofs.tables.Received.{seen_here}
-use Rattle.theory_first_natives.proofs.tables.NativeTables.{packet_is_held}
+use Rattle.theory_first_natives.proofs.tables.NativeTables.{tested_by, native_is_tested}
 
 -- what is no echo reply answers no test
 pub answers_nothing : (nonce : Option ℕ) (m : Option Message) → is_echo_reply m ≡ false → is_reply_to nonce m ≡ false
@@ -13,6 +13,11 @@ answers_nothing (Some nonce) (Some (echo_reply id seq body)) e = absurd (false�
 answers_nothing (Some nonce) (Some (router_solicit options)) e = refl
 answers_nothing (Some nonce) (Some (router_advert hop flags life reach retrans options)) e = refl
 answers_nothing (Some nonce) (Some (other kind code rest)) e = refl
+
+-- a client that knows so much of a native tests it on a packet: the native isn't fresh, and the client isn't barred for it
+pub record MayBeTested (n : ℕ) (host : Peer) : Type 0 where
+  pub stale : is_fresh n host ≡ false
+  pub unbarred : is_barred n host ≡ false
 
 -- a packet of a native for this client came from an endpoint that is none of its server's
 pub record IsFromNative (s : Settings) (j : Journal) (at : Ep) (p : Fields) : Type 0 where
@@ -50,17 +55,19 @@ module _ (s : Settings) (j : Journal) (n : ℕ) (at : Ep) (p : Fields) (is : IsF
     foreign = ap (same_ip6 p.src) own_is ∙ is.other;
   }
 
-  -- the native, for which there is room, isn't trusted there and may be tested, and the packet is neither a bubble nor an echo reply
-  pub record IsTestable : Type 0 where
+  -- the native, for which there is room, isn't trusted there and may be tested, and the packet is neither a bubble nor an echo reply; whether
+  -- the client holds as many packets of it as it may
+  pub record IsTestable (full : Bool) : Type 0 where
     pub untrusted : is_trusted_at at (known (mentions j.entries) n p.src) ≡ false
-    pub may : MayTest n (known (mentions j.entries) n p.src)
+    pub may : MayBeTested n (known (mentions j.entries) n p.src)
+    pub kept : holds_most (known (mentions j.entries) n p.src) ≡ full
     pub room : has_room (mentions j.entries) n p.src ≡ true
     pub no_bubble : is_bubble p ≡ false
     pub no_reply : is_echo_reply (message_in p) ≡ false
 
-  suspect : IsTestable → IsSuspect false seen_so
+  suspect : (full : Bool) → IsTestable full → IsSuspect full seen_so
   unfolding standing_at
-  suspect new = record {
+  suspect full new = record {
     direct = record { mine = for_client; direct = is.elsewhere };
     untrusted = new.untrusted;
     native = is.native;
@@ -70,18 +77,20 @@ module _ (s : Settings) (j : Journal) (n : ℕ) (at : Ep) (p : Fields) (is : IsF
     room = new.room;
     no_bubble = new.no_bubble;
     no_reply = new.no_reply;
-    kept = new.may.kept;
+    kept = new.kept;
   }
 
-  -- it is held, and a test with a nonce goes to the server
-  pub record TestsIt (x : List ℕ) (nonce : ℕ) (e : Entry) : Type 0 where
-    pub fate : e.step.fate ≡ fate.HeldTest
+  -- a test with a nonce goes to the server, and nothing to the host
+  pub record TestsIt (full : Bool) (x : List ℕ) (nonce : ℕ) (e : Entry) : Type 0 where
+    pub fate : e.step.fate ≡ tested_by full
     pub sends : e.step.sends ≡ send (server_ep s.primary) (test_bytes p.dst p.src nonce) ∷ []
     pub about : e.peer ≡ Some p.src
     pub moment : e.moment ≡ n
     pub came : e.input ≡ arrived at x
     pub packet : e.packet ≡ Some x
     pub drew : nonce_of_words e.words ≡ Some nonce
+    pub handed : e.step.handed ≡ None
+    pub late : e.step.late ≡ []
 
   test_is : (w : Words) → test s (own_address (qualification s j)) p.src (nonce_from w) ≡ send (server_ep s.primary) (test_bytes p.dst p.src (nonce_from w))
   unfolding test
@@ -91,13 +100,20 @@ module _ (s : Settings) (j : Journal) (n : ℕ) (at : Ep) (p : Fields) (is : IsF
   unfolding packet_in
   whole x reads = ap (λ (b : Bool). cond b (Some (drop (value_in x).lead.at x)) None) reads.is_one ∙ ap (λ (u : Value). Some (drop u.lead.at x)) reads.value
 
-  pub tests_it : IsTestable → (x : List ℕ) → ReadsPayload v x → (w : Words) → TestsIt x (nonce_from w) (client_in s j n at x w)
+  -- the step of such a fate
+  step_is : (full : Bool) (x : List ℕ) (w : Words) → reception_step s (standing_at s j n p.src) at x v w (tested_by full)
+      ≡ tests_source (tested_by full) s (standing_at s j n p.src) v w
+  step_is true x w = refl
+  step_is false x w = refl
+
+  pub tests_it : (full : Bool) → IsTestable full → (x : List ℕ) → ReadsPayload v x → (w : Words) → TestsIt full x (nonce_from w) (client_in s j n at x w)
   unfolding standing_at
-  tests_it new x reads w =
-      subst (TestsIt x (nonce_from w)) (sym (entry_here s j n at x v reads w fate.HeldTest
-      (packet_is_held (seen_here s j n at x v reads) (advert_row s (standing_at s j n p.src).qualification at v) (suspect new)
+  tests_it full new x reads w =
+      subst (TestsIt full x (nonce_from w)) (sym (entry_here s j n at x v reads w (tested_by full)
+      (native_is_tested full (seen_here s j n at x v reads) (advert_row s (standing_at s j n p.src).qualification at v) (suspect full new)
       (and_left (is_teredo p.src) (same_ep (embedded p.src) at) is.native)
-      (answers_nothing (known (mentions j.entries) n p.src).nonce (message_in p) new.no_reply))))
+      (answers_nothing (known (mentions j.entries) n p.src).nonce (message_in p) new.no_reply))
+      ∙ ap (entry n (arrived at x) (packet_in x) (Some p.src) w) (step_is full x w)))
       (record {
         fate = refl;
         sends = ap (λ z. z ∷ []) (test_is w);
@@ -106,4 +122,6 @@ module _ (s : Settings) (j : Journal) (n : ℕ) (at : Ep) (p : Fields) (is : IsF
         came = refl;
         packet = whole x reads;
         drew = refl;
+        handed = refl;
+        late = refl;
       })

@@ -1,5 +1,5 @@
 -- What the tables of servers, relays and clients give at the stages of a first packet between a client and a native.
-use Rattle.theory_first_natives.proofs.Words.{Bool, Ep, Fate, GoesToSix, GoesToTrusted, IsPeerBubble, IsServed, IsSuspect, IsTested, IsTrusted, RelayGiven, RelayGoesLater, RelayGoesToCone, RelaySeen, Seen, ServerSeen, ServerSettings, Six, Value, false, first_line, last_line, not, reception_row, refl, relay_reception_row, relay_transmission_row, rule_of, server_datagram_lines, server_destination_lines, server_packet_lines, server_seen, true, ◌&&◌, ◌++◌, ◌≡◌}
+use Rattle.theory_first_natives.proofs.Words.{Bool, Ep, Fate, GoesToSix, GoesToTrusted, IsPeerBubble, IsServed, IsSuspect, IsTested, IsTrusted, RelayGiven, RelayGoesLater, RelayGoesToCone, RelaySeen, Seen, ServerSeen, ServerSettings, Six, Value, cond, false, first_line, last_line, not, reception_row, refl, relay_reception_row, relay_transmission_row, rule_of, server_datagram_lines, server_destination_lines, server_packet_lines, server_seen, true, ◌&&◌, ◌++◌, ◌≡◌}
 use Rattle.teredo_node.specs.declared.fate.Fate.TheVariants as fate
 
 -- A SERVER
@@ -95,8 +95,18 @@ both_fail true true d e = e
 both_fail true false d e = refl
 both_fail false c d e = refl
 
-pub packet_is_held : (a : Seen) (advert : Fate) → IsSuspect false a → a.embedded_here ≡ false → a.peer.reply ≡ false → reception_row a advert ≡ fate.HeldTest
-packet_is_held a _ is elsewhere no_answer =
+-- a native is tested on a packet, which is held as long as the client doesn't hold as many of it as it may
+abbrev pub tested_by : (full : Bool) → Fate
+tested_by true = fate.SuspiciousTest
+tested_by false = fate.HeldTest
+
+of_test : (full : Bool) → cond (not full) fate.HeldTest fate.SuspiciousTest ≡ tested_by full
+of_test true = refl
+of_test false = refl
+
+pub native_is_tested : (full : Bool) (a : Seen) (advert : Fate) → IsSuspect full a → a.embedded_here ≡ false → a.peer.reply ≡ false
+    → reception_row a advert ≡ tested_by full
+native_is_tested full a _ is elsewhere no_answer =
     let mine = is.direct.mine in
     let sound = mine.sound in
     let no_test : (a.peer.listed && (not a.peer.fresh && a.peer.reply)) ≡ false = both_fail a.peer.listed (not a.peer.fresh) a.peer.reply no_answer in
@@ -120,4 +130,4 @@ packet_is_held a _ is elsewhere no_answer =
       is.no_bubble,
       is.no_reply,
       is.kept,
-    ) refl
+    ) (of_test full)

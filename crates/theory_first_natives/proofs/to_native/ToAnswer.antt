@@ -1,5 +1,5 @@
 -- A native's answer to the packet that a client's host sent: a packet of the native for the client, as long as that one.
-use Rattle.theory_first_natives.proofs.Words.{Fields, GoesBetween, HEADER, HOST_HOP, Ip6, IsBytes, IsIp6, IsPacket, IsReply, List, MessageBytes, NEXT_NONE, PACKET_MAX, ReadsPacket, Some, and_right, ap, arith, body_bytes, each_is_reply, echo_reply, echo_request, false, fields_in, is_big, is_bubble, length, message_bytes, message_is, message_packet, nat_lt, nat_tests, native_in, packet_bytes, packet_is_bytes, packet_reads_back, read_found, refl, subst, sym, ℕ, ◌+◌, ◌<◌, ◌==◌, ◌^◌, ◌∙◌, ◌≡◌, ◌≤◌}
+use Rattle.theory_first_natives.proofs.Words.{CarriesMessage, Fields, GoesBetween, HEADER, HOST_HOP, Ip6, IsBytes, IsIp6, IsPacket, IsReply, List, MessageBytes, NEXT_NONE, PACKET_MAX, ReadsPacket, Some, and_right, ap, arith, body_bytes, each_is_reply, echo_reply, echo_request, false, fields_in, is_big, is_bubble, is_echo_reply, length, message_bytes, message_in, message_is, message_is_carried, message_packet, nat_lt, nat_tests, native_in, packet_bytes, packet_is_bytes, packet_reads_back, read_found, refl, subst, sym, true, ℕ, ◌+◌, ◌<◌, ◌==◌, ◌^◌, ◌∙◌, ◌≡◌, ◌≤◌}
 
 -- THE ANSWER
 
@@ -21,14 +21,13 @@ module _ (own host : Ip6) (x y : List ℕ) (asked : IsAsked own host x) (answere
   abbrev answer : Fields
   answer = message_packet HOST_HOP p.dst p.src (echo_reply it.id it.seq it.body)
 
+  found : MessageBytes p.src p.dst p.hop (echo_request it.id it.seq it.body) p.body
+  found = read_found p.src p.dst p.hop (echo_request it.id it.seq it.body) p.body (body_bytes x asked.bytes asked.goes.packet)
+      (message_is p (echo_request it.id it.seq it.body) it.request)
+
   -- it has as many bytes
   body_long : length p.body ≡ 8 + length it.body
-  body_long =
-      let found : MessageBytes p.src p.dst p.hop (echo_request it.id it.seq it.body) p.body =
-      read_found p.src p.dst p.hop (echo_request it.id it.seq it.body) p.body (body_bytes x asked.bytes asked.goes.packet)
-      (message_is p (echo_request it.id it.seq it.body) it.request) in
-      let len = ap (λ (z : List ℕ). length z) found.bytes in
-      omega (arith, len)
+  body_long = let len = ap (λ (z : List ℕ). length z) found.bytes in omega (arith, len)
 
   answer_long : length answer.body ≡ 8 + length it.body
   unfolding message_bytes
@@ -84,3 +83,19 @@ module _ (own host : Ip6) (x y : List ℕ) (asked : IsAsked own host x) (answere
 
   pub answer_is_small : is_big (fields_in y) ≡ false
   answer_is_small = ap (λ (z : List ℕ). is_big (fields_in z)) it.reply ∙ ap is_big reads.fields ∙ answer_small
+
+  -- and it reads as an echo reply
+  pub answer_replies : is_echo_reply (message_in (fields_in y)) ≡ true
+  answer_replies =
+      let c : CarriesMessage (echo_reply it.id it.seq it.body) answer = message_is_carried HOST_HOP p.dst p.src (echo_reply it.id it.seq it.body) (record {
+        hop_fits = omega arith;
+        src_fits = fits.src;
+        dst_fits = fits.dst;
+        fits = found.fits;
+        valid = tt;
+        short = few (length p.body) (length it.body) body_long not_big;
+      }) in
+      ap (λ (z : List ℕ). is_echo_reply (message_in (fields_in z))) it.reply ∙ ap (λ (f : Fields). is_echo_reply (message_in f)) reads.fields
+      ∙ ap is_echo_reply c.message where
+        few : (a b : ℕ) → a ≡ 8 + b → 40 + a ≤ PACKET_MAX → 8 + b < 2 ^ 16
+        few a b e most = omega (arith, e, most)

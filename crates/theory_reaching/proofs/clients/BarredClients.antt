@@ -1,12 +1,13 @@
 -- `barred` between clients: the sender may not send a bubble yet, and sends nothing; or the receiver may not answer one yet, and none comes to
 -- it straight.
-use Rattle.theory_reaching.proofs.Words.{BarredSenderIsSilent, ClientNode, Full, Grown, Handing, Ip6, IsSentNext, KeepsBetweenClients, Lab, List, Reach, SomeBrings, TwoClients, address_at, and_parts, and_right, ap, between_clients_lines, between_clients_row, by_lines, client, embedded, false, has_cone, host_hands, inl, inr, is_barred, is_fresh, is_led_to, is_settled, is_teredo, known_by, not, now, or_parts, sound_first, subst, true, two_clients, ℕ, ◌||◌, ◌∷◌, ◌≡◌, ◌⊎◌}
+use Rattle.theory_reaching.proofs.Words.{BarredSenderIsSilent, ClientNode, Full, Grown, Handing, Ip6, IsSentNext, KeepsBetweenClients, Lab, List, Reach, SomeBrings, TwoClients, address_at, and_parts, and_right, ap, between_clients_row, by_lines, client, early_client_lines, embedded, false, has_cone, host_hands, inl, inr, is_barred, is_fresh, is_led_to, is_settled, is_teredo, known_by, not, now, or_parts, refl, sound_first, subst, true, two_clients, ℕ, ◌||◌, ◌∷◌, ◌≡◌, ◌⊎◌}
 use Rattle.theory_settled.proofs.Earlier.{earlier}
 use Rattle.theory_reaching.specs.declared.word.Reach.TheVariants as word
 use Rattle.theory_reaching.proofs.clients.BarredReceiver.{none_come}
 use Rattle.theory_reaching.proofs.clients.BothSettled.{AreBoth}
 use Rattle.theory_reaching.proofs.from_native.NoneFollow.{IsClosedOff, nothing_made, none_follow}
 use Rattle.theory_reaching.proofs.Pairs.{of_clients}
+use Rattle.theory_reaching.proofs.clients.LateLines.{past_opening, late_word, never_later}
 use Rattle.theory_reaching.proofs.Tests.{elsewhere, either, failed, held}
 use Rattle.theory_reaching.proofs.WordTests.{is_barred_word}
 
@@ -25,11 +26,9 @@ record IsUnanswered (a : TwoClients) : Type 0 where
   barred : a.barred_there ≡ true
 
 held_back : (a : TwoClients) → is_barred_word (between_clients_row a) ≡ true → IsHeldBack a ⊎ IsUnanswered a
-held_back a = by_lines (λ (r : Reach). is_barred_word r ≡ true → IsHeldBack a ⊎ IsUnanswered a) (between_clients_lines a) word.Within5 (
-  (λ _ e. elsewhere e),
-  (λ _. (
-    (λ _ e. elsewhere e),
-    (λ _. (
+held_back a = past_opening (λ (r : Reach). is_barred_word r ≡ true → IsHeldBack a ⊎ IsUnanswered a) a (λ e. elsewhere e) (λ e. elsewhere e) (λ e. elsewhere e) (λ e. elsewhere e) (by_lines
+    (λ (r : Reach). is_barred_word r ≡ true → IsHeldBack a ⊎ IsUnanswered a) (early_client_lines a)
+    (late_word a) (
       (λ _ e. elsewhere e),
       (λ settled. (
         (λ _ e. elsewhere e),
@@ -45,7 +44,7 @@ held_back a = by_lines (λ (r : Reach). is_barred_word r ≡ true → IsHeldBack
                   (λ _ e. elsewhere e),
                   (λ _. (
                     (λ there _. inr (record { settled = held a.settled settled; apart = apart; distant = distant; barred = there })),
-                    (λ _. ((λ _ e. elsewhere e), (λ _. ((λ _ e. elsewhere e), (λ _ e. elsewhere e))))),
+                    (λ _ e. never_later is_barred_word a (refl, (refl, (refl, (refl, (refl, (refl, (refl, (refl, (refl, (refl, tt)))))))))) refl e),
                   )),
                 )),
               )),
@@ -53,9 +52,7 @@ held_back a = by_lines (λ (r : Reach). is_barred_word r ≡ true → IsHeldBack
           )),
         )),
       )),
-    )),
-  )),
-)
+    ))
 
 -- THE SENDER
 

@@ -57,7 +57,7 @@ module _ (the : Both) where
   pub receiver_along : IsSettledAlong lab H m d other
   receiver_along = settled_along lab H m d are.to are.receiver
 
-  sender_settles : Settles lab H n c own
+  pub sender_settles : Settles lab H n c own
   sender_settles = record {
     rules = are.rules;
     chained = are.chained;

@@ -1,10 +1,11 @@
 -- `full` between clients: the receiver has no room for the sender and hears nothing of it, or the sender has none for the receiver and
 -- sends nothing.
-use Rattle.theory_reaching.proofs.Words.{Did, Grown, KeepsBetweenClients, Reach, SomeBrings, TwoClients, address_at, and_parts, and_right, ap, between_clients_lines, between_clients_row, by_lines, client, entry_of, false, has_cone, inl, inr, is_fresh, is_settled, is_teredo, known_by, no_ep, now, or_parts, sound_first, subst, true, two_clients, ◌||◌, ◌∷◌, ◌≡◌, ◌⊎◌}
+use Rattle.theory_reaching.proofs.Words.{Did, Grown, KeepsBetweenClients, Reach, SomeBrings, TwoClients, address_at, and_parts, and_right, ap, between_clients_row, by_lines, client, early_client_lines, entry_of, false, has_cone, inl, inr, is_fresh, is_settled, is_teredo, known_by, no_ep, now, or_parts, refl, sound_first, subst, true, two_clients, ◌||◌, ◌∷◌, ◌≡◌, ◌⊎◌}
 use Rattle.teredo_node.specs.Journal.{given}
 use Rattle.theory_settled.proofs.Earlier.{earlier}
 use Rattle.theory_first_packets.proofs.HandedIn as handed_in
 use Rattle.theory_reaching.specs.declared.word.Reach.TheVariants as word
+use Rattle.theory_reaching.proofs.clients.LateLines.{past_opening, late_word, never_later}
 use Rattle.theory_reaching.proofs.Tests.{elsewhere, held, failed}
 use Rattle.theory_reaching.proofs.WordTests.{is_full_word}
 use Rattle.theory_reaching.proofs.Pairs.{of_clients}
@@ -26,11 +27,9 @@ record IsCrowded (a : TwoClients) : Type 0 where
   crowded : a.room ≡ false
 
 somewhere_full : (a : TwoClients) → is_full_word (between_clients_row a) ≡ true → IsDeaf a ⊎ IsCrowded a
-somewhere_full a = by_lines (λ (r : Reach). is_full_word r ≡ true → IsDeaf a ⊎ IsCrowded a) (between_clients_lines a) word.Within5 (
-  (λ _ e. elsewhere e),
-  (λ _. (
-    (λ _ e. elsewhere e),
-    (λ _. (
+somewhere_full a = past_opening (λ (r : Reach). is_full_word r ≡ true → IsDeaf a ⊎ IsCrowded a) a (λ e. elsewhere e) (λ e. elsewhere e) (λ e. elsewhere e) (λ e. elsewhere e) (by_lines
+    (λ (r : Reach). is_full_word r ≡ true → IsDeaf a ⊎ IsCrowded a) (early_client_lines a)
+    (late_word a) (
       (λ _ e. elsewhere e),
       (λ settled. (
         (λ _ e. elsewhere e),
@@ -44,16 +43,14 @@ somewhere_full a = by_lines (λ (r : Reach). is_full_word r ≡ true → IsDeaf 
                 (λ _ e. elsewhere e),
                 (λ _. (
                   (λ crowded _. inr (record { distant = distant; crowded = failed a.room crowded })),
-                  (λ _. ((λ _ e. elsewhere e), (λ _. ((λ _ e. elsewhere e), (λ _. ((λ _ e. elsewhere e), (λ _ e. elsewhere e))))))),
+                  (λ _. ((λ _ e. elsewhere e), (λ _ e. never_later is_full_word a (refl, (refl, (refl, (refl, (refl, (refl, (refl, (refl, (refl, (refl, tt)))))))))) refl e))),
                 )),
               )),
             )),
           )),
         )),
       )),
-    )),
-  )),
-)
+    ))
 
 -- THE WORD
 

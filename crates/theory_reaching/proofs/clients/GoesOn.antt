@@ -1,5 +1,6 @@
 -- A fresh schedule after a client's packet that isn't complete goes on: one more delivery may follow.
-use Rattle.theory_reaching.proofs.Words.{Act, Delivers, Event, Full, Hands, IsAskedFor, Lab, List, None, Option, Some, Verb, ap, arms, false, false≢true, first_undelivered, has_more, inl, inr, is_some, others, refl, subst, sym, true, unwrap_or, ℕ, ◌∙◌, ◌≡◌}
+use Rattle.theory_reaching.proofs.Words.{Act, Delivers, Event, Full, IsAskedFor, Lab, List, None, Option, Some, Verb, ap, arms, false, false≢true, first_undelivered, has_more, inl, inr, is_some, others, refl, subst, sym, true, unwrap_or, ℕ, ◌∙◌, ◌≡◌}
+use Rattle.legal.specs.Kinds.{Hands}
 use Rattle.events.specs.declared.event.Event.TheVariants as event
 use Rattle.history.specs.declared.act.Act.TheVariants as act
 use Rattle.legal.specs.Laws.{delivers}

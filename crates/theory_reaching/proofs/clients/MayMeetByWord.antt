@@ -1,8 +1,11 @@
 -- `within 4` and `within 5`: the lines before them say that the two clients may meet.
-use Rattle.theory_reaching.proofs.Words.{Bool, ClientNode, Full, Ip6, Lab, List, MayMeetAlong, Peer, Reach, Some, TwoClients, [], address_at, and_parts, ap, as_client, between_clients_lines, between_clients_row, by_lines, client, eq-eqb, false, false≢true, has_cone, is_barred, is_fresh, is_none, is_settled, keeps_packets, known_by, node_at, not, now, option_and_then, or_parts, outermost, refl, sym, true, two_clients, ℕ, ◌||◌, ◌∙◌, ◌∷◌, ◌≡◌}
+use Rattle.theory_reaching.proofs.Words.{Bool, ClientNode, Full, Grown, Ip6, IsOver, Lab, List, MayMeetAlong, Peer, Reach, Some, TwoClients, [], address_at, and_parts, ap, as_client, between_clients_row, by_lines, client, early_client_lines, eq-eqb, false, false≢true, has_cone, is_barred, is_fresh, is_none, is_settled, keeps_packets, known_by, late_client_lines, node_at, not, now, option_and_then, or_parts, outermost, refl, sym, true, two_clients, ℕ, ◌||◌, ◌∙◌, ◌∷◌, ◌≡◌}
 use Rattle.theory_reaching.specs.declared.word.Reach.TheVariants as word
 use Rattle.theory_reaching.proofs.Tests.{elsewhere, held}
+use Rattle.theory_reaching.proofs.clients.LateLines.{past_opening, late_word}
 use Rattle.theory_reaching.proofs.clients.SettledClients.{settled_along}
+use Rattle.theory_reaching.proofs.waiting.ClientAdds.{client_kept_back}
+use Rattle.theory_reaching.proofs.waiting.KeptBack.{none_kept}
 
 -- WHAT THE LINES SAY
 
@@ -23,14 +26,11 @@ pub record Passes (a : TwoClients) : Type 0 where
   pub distant : (a.fresh || a.to_cone) ≡ false
   pub unbarred : a.barred ≡ false
   pub room : a.room ≡ true
-  pub unknown : a.known ≡ false
+  pub free : a.peer_barred ≡ false
 
 pub passes : (a : TwoClients) → is_late (between_clients_row a) ≡ true → Passes a
-passes a = by_lines (λ (r : Reach). is_late r ≡ true → Passes a) (between_clients_lines a) word.Within5 (
-  (λ _ e. elsewhere e),
-  (λ on. (
-    (λ _ e. elsewhere e),
-    (λ there. (
+passes a = past_opening (λ (r : Reach). is_late r ≡ true → Passes a) a (λ e. elsewhere e) (λ e. elsewhere e) (λ e. elsewhere e) (λ e. elsewhere e) (by_lines (λ (r : Reach). is_late r ≡ true → Passes a) (early_client_lines a)
+    (late_word a) (
       (λ _ e. elsewhere e),
       (λ settled. (
         (λ _ e. elsewhere e),
@@ -46,11 +46,35 @@ passes a = by_lines (λ (r : Reach). is_late r ≡ true → Passes a) (between_c
                   (λ _ e. elsewhere e),
                   (λ room. (
                     (λ _ e. elsewhere e),
-                    (λ _. (
+                    (λ _. by_lines (λ (r : Reach). is_late r ≡ true → Passes a) (late_client_lines a) word.Within5 (
                       (λ _ e. elsewhere e),
-                      (λ unknown. (
-                        (λ _ _. all settled apart heard distant unbarred room unknown),
-                        (λ _ _. all settled apart heard distant unbarred room unknown),
+                      (λ _. (
+                        (λ _ e. elsewhere e),
+                        (λ _. (
+                          (λ _ e. elsewhere e),
+                          (λ _. (
+                            (λ _ e. elsewhere e),
+                            (λ _. (
+                              (λ _ e. elsewhere e),
+                              (λ _. (
+                                (λ _ e. elsewhere e),
+                                (λ _. (
+                                  (λ _ e. elsewhere e),
+                                  (λ _. (
+                                    (λ _ e. elsewhere e),
+                                    (λ _. (
+                                      (λ _ e. elsewhere e),
+                                      (λ free. (
+                                        (λ _ _. all settled apart heard distant unbarred room free),
+                                        (λ _ _. all settled apart heard distant unbarred room free),
+                                      )),
+                                    )),
+                                  )),
+                                )),
+                              )),
+                            )),
+                          )),
+                        )),
                       )),
                     )),
                   )),
@@ -60,20 +84,18 @@ passes a = by_lines (λ (r : Reach). is_late r ≡ true → Passes a) (between_c
           )),
         )),
       )),
-    )),
-  )),
-) where
-  all : not a.settled ≡ false → a.one_nat ≡ false → not a.heard ≡ false → (a.fresh || a.to_cone) ≡ false → a.barred ≡ false → not a.room ≡ false
-      → a.known ≡ false → Passes a
-  all settled apart heard distant unbarred room unknown = record {
-    settled = held a.settled settled;
-    apart = apart;
-    heard = held a.heard heard;
-    distant = distant;
-    unbarred = unbarred;
-    room = held a.room room;
-    unknown = unknown;
-  }
+    )) where
+      all : not a.settled ≡ false → a.one_nat ≡ false → not a.heard ≡ false → (a.fresh || a.to_cone) ≡ false → a.barred ≡ false → not a.room ≡ false
+          → a.peer_barred ≡ false → Passes a
+      all settled apart heard distant unbarred room free = record {
+        settled = held a.settled settled;
+        apart = apart;
+        heard = held a.heard heard;
+        distant = distant;
+        unbarred = unbarred;
+        room = held a.room room;
+        free = free;
+      }
 
 -- WHAT THE TWO CLIENTS ARE
 
@@ -83,9 +105,9 @@ no_packets peer e = by peer.waiting e where
   by [] e = refl
   by (w ∷ ws) e = absurd (false≢true (sym e))
 
--- node n is the client a, and node m the client b
-module _ (lab : Lab) (H : List Full) (n m : ℕ) (a b : ClientNode) (at : node_at lab.topology n ≡ Some (client a))
-    (to : node_at lab.topology m ≡ Some (client b)) where
+-- node n is the client a, and node m the client b, after a history whose latest event is over
+module _ (lab : Lab) (H : List Full) (grown : Grown lab H) (over : IsOver H) (n m : ℕ) (a b : ClientNode)
+    (at : node_at lab.topology n ≡ Some (client a)) (to : node_at lab.topology m ≡ Some (client b)) where
   abbrev own : Ip6
   own = address_at lab H n
 
@@ -97,8 +119,6 @@ module _ (lab : Lab) (H : List Full) (n m : ℕ) (a b : ClientNode) (at : node_a
   may_meet p =
       let both = and_parts (is_settled lab H n a) (is_settled lab H m b) p.settled in
       let distant = or_parts (is_fresh (now H) (known_by H n other)) (has_cone other) p.distant in
-      let first = or_parts (keeps_packets (known_by H n other)) (keeps_packets (known_by H m own) || is_barred (now H) (known_by H m own)) p.unknown in
-      let second = or_parts (keeps_packets (known_by H m own)) (is_barred (now H) (known_by H m own)) first.1 in
       record {
         sender = ap (option_and_then as_client) at;
         receiver = ap (option_and_then as_client) to;
@@ -106,8 +126,8 @@ module _ (lab : Lab) (H : List Full) (n m : ℕ) (a b : ClientNode) (at : node_a
         sender_settled = settled_along lab H n a at both.0;
         receiver_settled = settled_along lab H m b to both.1;
         stale = distant.0;
-        receiver_ready = record { room = p.heard; nothing_waits = no_packets (known_by H m own) second.0 };
-        sender_ready = λ _. record { room = p.room; nothing_waits = no_packets (known_by H n other) first.0 };
+        receiver_ready = record { room = p.heard; nothing_waits = none_kept (now H) (known_by H m own) (client_kept_back lab m b to own H grown over) p.free };
+        sender_ready = λ _. record { room = p.room; nothing_waits = none_kept (now H) (known_by H n other) (client_kept_back lab n a at other H grown over) p.unbarred };
         sender_unbarred = λ _. p.unbarred;
-        receiver_unbarred = λ _. second.1;
+        receiver_unbarred = λ _. p.free;
       }

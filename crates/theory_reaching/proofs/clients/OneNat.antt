@@ -1,9 +1,11 @@
 -- `one_nat`: what comes from a NAT's address goes to another one, so a packet of a client behind the receiver's outermost NAT doesn't
 -- come, whoever spoke for others before.
-use Rattle.theory_reaching.proofs.Words.{All-contains, All-from_recursion, AllByRecursion, ClientNode, Contains, Delivers, EntersPast, Ep, Event, Full, GivesToHost, GoesElsewhere, Grown, Hands, Ip6, IsBrought, IsLetIn, IsSettledAlong, Item, KeepsBetweenClients, Lab, List, Option, Reach, Some, SomeBrings, TwoClients, Verb, [], address_at, and_parts, ap, as_client, asked_for, asks_at, between_clients_lines, between_clients_row, by_lines, client, client_at, client_settings, embedded, enters_by_its_way, eqb-true, false, false≢true, fields_in, first_is, host_hands, inl, inr, is_brought, is_settled, is_teredo, items_of, journal, last_nat, late_is_foreign, nat_of, now, option_and_then, outer_nats_of, outermost, own_is_teredo, refl, slice_get, subst, sym, true, two_clients, udp, unwrap_or, wire, ℕ, ◌∙◌, ◌∷◌, ◌≡◌, ◌⊎◌}
+use Rattle.theory_reaching.proofs.Words.{All-contains, All-from_recursion, AllByRecursion, ClientNode, Contains, Delivers, EntersPast, Ep, Event, Full, GivesToHost, GoesElsewhere, Grown, Ip6, IsBrought, IsLetIn, IsSettledAlong, Item, KeepsBetweenClients, Lab, List, Option, Reach, Some, SomeBrings, TwoClients, Verb, [], address_at, and_parts, ap, as_client, asked_for, asks_at, between_clients_row, by_lines, client, client_at, client_settings, early_client_lines, embedded, enters_by_its_way, eqb-true, false, false≢true, fields_in, first_is, host_hands, inl, inr, is_brought, is_settled, is_teredo, items_of, journal, last_nat, late_is_foreign, nat_of, now, option_and_then, outer_nats_of, outermost, own_is_teredo, refl, slice_get, subst, sym, true, two_clients, udp, unwrap_or, wire, ℕ, ◌∙◌, ◌∷◌, ◌≡◌, ◌⊎◌}
+use Rattle.legal.specs.Kinds.{Hands}
 use Rattle.events.specs.declared.event.Event.TheVariants as event
 use Rattle.theory_settled.proofs.Earlier.{earlier}
 use Rattle.theory_reaching.specs.declared.word.Reach.TheVariants as word
+use Rattle.theory_reaching.proofs.clients.LateLines.{past_opening, late_word, never_later}
 use Rattle.theory_reaching.proofs.Tests.{elsewhere, held}
 use Rattle.theory_reaching.proofs.WordTests.{is_one_nat}
 use Rattle.theory_reaching.proofs.clients.GoesOn.{is_delivery}
@@ -20,11 +22,9 @@ record AreNeighbours (a : TwoClients) : Type 0 where
   one_nat : a.one_nat ≡ true
 
 neighbours : (a : TwoClients) → is_one_nat (between_clients_row a) ≡ true → AreNeighbours a
-neighbours a = by_lines (λ (r : Reach). is_one_nat r ≡ true → AreNeighbours a) (between_clients_lines a) word.Within5 (
-  (λ _ e. elsewhere e),
-  (λ _. (
-    (λ _ e. elsewhere e),
-    (λ _. (
+neighbours a = past_opening (λ (r : Reach). is_one_nat r ≡ true → AreNeighbours a) a (λ e. elsewhere e) (λ e. elsewhere e) (λ e. elsewhere e) (λ e. elsewhere e) (by_lines
+    (λ (r : Reach). is_one_nat r ≡ true → AreNeighbours a) (early_client_lines a)
+    (late_word a) (
       (λ _ e. elsewhere e),
       (λ settled. (
         (λ one _. record { settled = held a.settled settled; one_nat = one }),
@@ -38,16 +38,14 @@ neighbours a = by_lines (λ (r : Reach). is_one_nat r ≡ true → AreNeighbours
                 (λ _ e. elsewhere e),
                 (λ _. (
                   (λ _ e. elsewhere e),
-                  (λ _. ((λ _ e. elsewhere e), (λ _. ((λ _ e. elsewhere e), (λ _. ((λ _ e. elsewhere e), (λ _ e. elsewhere e))))))),
+                  (λ _. ((λ _ e. elsewhere e), (λ _ e. never_later is_one_nat a (refl, (refl, (refl, (refl, (refl, (refl, (refl, (refl, (refl, (refl, tt)))))))))) refl e))),
                 )),
               )),
             )),
           )),
         )),
       )),
-    )),
-  )),
-)
+    ))
 
 -- EVENTS
 

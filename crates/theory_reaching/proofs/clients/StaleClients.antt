@@ -1,7 +1,8 @@
 -- `stale` between clients: the packet goes at once to where the receiver was heard, and its NATs let nothing in there.
-use Rattle.theory_reaching.proofs.Words.{KeepsBetweenClients, Reach, SomeBrings, TwoClients, address_at, and_parts, ap, between_clients_lines, between_clients_row, by_lines, client, false, has_cone, is_settled, not, or_left, sound_first, true, two_clients, ◌&&◌, ◌∷◌, ◌≡◌}
+use Rattle.theory_reaching.proofs.Words.{KeepsBetweenClients, Reach, SomeBrings, TwoClients, address_at, and_parts, ap, between_clients_row, by_lines, client, early_client_lines, false, has_cone, is_settled, not, or_left, refl, sound_first, true, two_clients, ◌&&◌, ◌∷◌, ◌≡◌}
 use Rattle.theory_settled.proofs.Earlier.{earlier}
 use Rattle.theory_reaching.specs.declared.word.Reach.TheVariants as word
+use Rattle.theory_reaching.proofs.clients.LateLines.{past_opening, late_word, never_later}
 use Rattle.theory_reaching.proofs.Tests.{elsewhere, held, failed}
 use Rattle.theory_reaching.proofs.WordTests.{is_stale}
 use Rattle.theory_reaching.proofs.Pairs.{of_clients}
@@ -17,11 +18,8 @@ record IsStale (a : TwoClients) : Type 0 where
   shut : (a.fresh && not a.let_in) ≡ true
 
 is_shut : (a : TwoClients) → is_stale (between_clients_row a) ≡ true → IsStale a
-is_shut a = by_lines (λ (r : Reach). is_stale r ≡ true → IsStale a) (between_clients_lines a) word.Within5 (
-  (λ _ e. elsewhere e),
-  (λ _. (
-    (λ _ e. elsewhere e),
-    (λ _. (
+is_shut a = past_opening (λ (r : Reach). is_stale r ≡ true → IsStale a) a (λ e. elsewhere e) (λ e. elsewhere e) (λ e. elsewhere e) (λ e. elsewhere e) (by_lines (λ (r : Reach). is_stale r ≡ true → IsStale a) (early_client_lines a)
+    (late_word a) (
       (λ _ e. elsewhere e),
       (λ settled. (
         (λ _ e. elsewhere e),
@@ -33,15 +31,13 @@ is_shut a = by_lines (λ (r : Reach). is_stale r ≡ true → IsStale a) (betwee
               (λ _ e. elsewhere e),
               (λ _. (
                 (λ _ e. elsewhere e),
-                (λ _. ((λ _ e. elsewhere e), (λ _. ((λ _ e. elsewhere e), (λ _. ((λ _ e. elsewhere e), (λ _. ((λ _ e. elsewhere e), (λ _ e. elsewhere e))))))))),
+                (λ _. ((λ _ e. elsewhere e), (λ _. ((λ _ e. elsewhere e), (λ _ e. never_later is_stale a (refl, (refl, (refl, (refl, (refl, (refl, (refl, (refl, (refl, (refl, tt)))))))))) refl e))))),
               )),
             )),
           )),
         )),
       )),
-    )),
-  )),
-)
+    ))
 
 -- THE WORD
 

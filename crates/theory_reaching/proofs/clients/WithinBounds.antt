@@ -8,7 +8,7 @@ use Rattle.theory_reaching.proofs.schedules.Undelivered.{all_or_one}
 use Rattle.theory_reaching.proofs.from_native.FromNativesInTime as from_host
 use Rattle.theory_reaching.proofs.clients.Further.{goes_on}
 use Rattle.theory_reaching.proofs.clients.MayMeetByWord.{is_four, is_late, passes, may_meet}
-use Rattle.theory_reaching.proofs.NextPacket.{NextPacket, of_nodes}
+use Rattle.theory_reaching.proofs.NextPacket.{NextPacket, of_nodes, over}
 
 -- WHAT THE LINES SAY
 
@@ -45,10 +45,10 @@ module _ (c d : ClientNode) (the : NextPacket (client c) (client d)) where
   open the use {lab, H, is, chained, q, later, n, m, x, g, at, to, sent, fresh}
 
   -- so many deliveries are the most, and a complete schedule brings the packet
-  abbrev GoesWell : ℕ → Type 0
+  abbrev pub GoesWell : ℕ → Type 0
   GoesWell most = (l : List Full) → Grown lab (l ++ q ∷ H) → AreFresh q l → (length l ≤ most) × (IsComplete H q l → HasArrived m x l)
 
-  in_time : (most : ℕ) → GoesWell most → ComesInTime H q m (client d) x later most
+  pub in_time : (most : ℕ) → GoesWell most → ComesInTime H q m (client d) x later most
   in_time most well = record { whole = whole; enough = λ short many. by short many (left_or_complete H q later) } where
     there : Grown lab (q ∷ H)
     there = earlier lab later (q ∷ H) g
@@ -82,7 +82,7 @@ module _ (c d : ClientNode) (the : NextPacket (client c) (client d)) where
       → GetsThrough H q m (address_at lab H n) (address_at lab H m) x l
   carried late l grown new =
       next_packet_arrives_along lab H q l is chained grown n m c d (address_at lab H n) (address_at lab H m) x
-      (record { clients = may_meet lab H n m c d at to (passes (two_clients lab H n m c d) late); handed = sent.handed }) new
+      (record { clients = may_meet lab H (earlier lab later (q ∷ H) g).1 (over the) n m c d at to (passes (two_clients lab H n m c d) late); handed = sent.handed }) new
 
   four : between_clients_row (two_clients lab H n m c d) ≡ word.Within4 → ComesInTime H q m (client d) x later 4
   unfolding two_clients

@@ -1,7 +1,8 @@
 -- `within 1`: the packet goes at once, and is let in.
-use Rattle.theory_reaching.proofs.Words.{Bool, ClientNode, ComesInTime, KeepsItsPromise, Node, Reach, Relayed, TwoClients, and_parts, ap, between_clients_lines, between_clients_row, by_lines, client, false, from_native_lines, from_native_row, is_settled, not, refl, relayed, sound_first, subst, sym, to_native_lines, to_native_row, true, two_clients, ◌&&◌, ◌||◌, ◌∷◌, ◌≡◌}
+use Rattle.theory_reaching.proofs.Words.{Bool, ClientNode, ComesInTime, KeepsItsPromise, Node, Reach, Relayed, TwoClients, and_parts, ap, between_clients_row, by_lines, client, early_client_lines, false, from_native_lines, from_native_row, is_settled, not, refl, relayed, sound_first, subst, sym, to_native_lines, to_native_row, true, two_clients, ◌&&◌, ◌||◌, ◌∷◌, ◌≡◌}
 use Rattle.theory_settled.proofs.Earlier.{earlier}
 use Rattle.theory_reaching.specs.declared.word.Reach.TheVariants as word
+use Rattle.theory_reaching.proofs.clients.LateLines.{past_opening, late_word, never_later}
 use Rattle.theory_reaching.proofs.Tests.{elsewhere, held}
 use Rattle.theory_reaching.proofs.Lines.{which_held}
 use Rattle.theory_reaching.proofs.Pairs.{SaidBy, between_clients, to_native, from_native, said_by}
@@ -24,11 +25,9 @@ record GoesStraight (a : TwoClients) : Type 0 where
   quick : (a.fresh || a.to_cone) ≡ true
 
 goes_straight : (a : TwoClients) → is_one (between_clients_row a) ≡ true → GoesStraight a
-goes_straight a = by_lines (λ (r : Reach). is_one r ≡ true → GoesStraight a) (between_clients_lines a) word.Within5 (
-  (λ _ e. elsewhere e),
-  (λ _. (
-    (λ _ e. elsewhere e),
-    (λ _. (
+goes_straight a = past_opening (λ (r : Reach). is_one r ≡ true → GoesStraight a) a (λ e. elsewhere e) (λ e. elsewhere e) (λ e. elsewhere e) (λ e. elsewhere e) (by_lines
+    (λ (r : Reach). is_one r ≡ true → GoesStraight a) (early_client_lines a)
+    (late_word a) (
       (λ _ e. elsewhere e),
       (λ settled. (
         (λ _ e. elsewhere e),
@@ -40,15 +39,13 @@ goes_straight a = by_lines (λ (r : Reach). is_one r ≡ true → GoesStraight a
               (λ quick _. record { settled = held a.settled settled; apart = apart; heard = held a.heard heard; let_in = let_in; quick = quick }),
               (λ _. (
                 (λ _ e. elsewhere e),
-                (λ _. ((λ _ e. elsewhere e), (λ _. ((λ _ e. elsewhere e), (λ _. ((λ _ e. elsewhere e), (λ _. ((λ _ e. elsewhere e), (λ _ e. elsewhere e))))))))),
+                (λ _. ((λ _ e. elsewhere e), (λ _. ((λ _ e. elsewhere e), (λ _ e. never_later is_one a (refl, (refl, (refl, (refl, (refl, (refl, (refl, (refl, (refl, (refl, tt)))))))))) refl e))))),
               )),
             )),
           )),
         )),
       )),
-    )),
-  )),
-)
+    ))
 
 -- it is never said of a native host
 never_to : (a : Relayed) → is_one (to_native_row a) ≡ true → ⊥

@@ -1,5 +1,6 @@
 -- What one more entry leaves of what is known of a peer, at the moment of the entry.
-use Rattle.theory_reaching.proofs.Words.{Bool, Ep, FRESH_MS, Ip6, LISTED_MS, List, Mention, None, Option, Peer, Some, TRIES_MAX, TRY_GAP_MS, after, ap, arith, cond, false, false≢true, filter, is_about, is_barred, is_ep, is_fresh, is_some, is_spent, is_trusted_at, is_within, is_younger, known, list_any, nat_lt, nat_tests, no_peer, one_entry, option_or, or_left, or_right, peer_at, peer_if, refl, subst, sym, take, tries_after, true, unwrap_or, ℕ, ◌&&◌, ◌-◌, ◌∙◌, ◌∷◌, ◌≡◌}
+use Rattle.theory_reaching.proofs.Words.{Bool, Ep, FRESH_MS, Ip6, LISTED_MS, List, Mention, None, Option, Peer, Some, TRIES_MAX, TRY_GAP_MS, ap, arith, cond, false, false≢true, filter, is_about, is_barred, is_ep, is_fresh, is_some, is_spent, is_trusted_at, is_within, is_younger, known, list_any, nat_lt, nat_tests, no_peer, one_entry, option_or, or_left, or_right, peer_at, peer_if, refl, subst, sym, take, tries_after, true, unwrap_or, ℕ, ◌&&◌, ◌-◌, ◌∙◌, ◌∷◌, ◌≡◌}
+use Rattle.peer_list.specs.Laws.{after}
 
 -- its tries alone say whether a peer is barred
 abbrev pub barred_by : ℕ → List ℕ → Bool

@@ -1,5 +1,5 @@
 -- A native host's packet for a client that may not test the host, or whose relay must ask for it in vain: no delivery brings it.
-use Rattle.theory_reaching.proofs.Words.{AllByRecursion, Bool, Ip6, List, [], address_at, client, cone_is_quiet, false, false≢true, fields_in, has_cone, host_hands, inl, inr, is_barred, is_echo_reply, is_none, is_some, is_trusted_at, journal, known_by, known_by_relay, message_in, native, now, peers_of, refl, relay_journals, relay_settings, subst, sym, true, ℕ, ◌∙◌, ◌∷◌, ◌≡◌, ◌⊎◌}
+use Rattle.theory_reaching.proofs.Words.{AllByRecursion, Bool, Ip6, IsOver, List, [], address_at, client, cone_is_quiet, false, false≢true, fields_in, has_cone, host_hands, inl, inr, is_barred, is_echo_reply, is_none, is_some, is_trusted_at, journal, known_by, known_by_relay, message_in, native, now, peers_of, refl, relay_journals, relay_settings, subst, sym, true, ℕ, ◌∙◌, ◌∷◌, ◌≡◌, ◌⊎◌}
 use Rattle.theory_reaching.proofs.entries.ClientKeeps.{Wary}
 use Rattle.theory_reaching.proofs.from_native.FromHost as from_host
 use Rattle.theory_reaching.proofs.from_native.FromHost.{FromHost}
@@ -11,7 +11,8 @@ use Rattle.theory_reaching.proofs.relays.RelayEnds.{way, relay_there}
 use Rattle.theory_reaching.proofs.schedules.Throughout.{NoneBrings}
 use Rattle.theory_reaching.proofs.waiting.RelayKeepsOnly.{OnlyThis}
 use Rattle.theory_reaching.proofs.to_native.Unanswered as unanswered
-use Rattle.theory_reaching.proofs.waiting.WaitingBarred.{IsOver, over_before, not_handing, kept_back}
+use Rattle.theory_reaching.proofs.waiting.OverEvents.{over_before, not_handing}
+use Rattle.theory_reaching.proofs.waiting.RelayAdds.{relay_kept_back}
 use Rattle.theory_reaching.proofs.relays.Relays.{RelayedHosts}
 
 module _ (the : FromHost) where
@@ -59,14 +60,17 @@ module _ (the : FromHost) where
   nothing_of [] e = tt
   nothing_of (w ∷ ws) e = absurd (false≢true e)
 
-  pub not_barred : is_barred (now H) (known_by_relay H h.relay own) ≡ false → OnlyThis x (known_by_relay H h.relay own).waiting
-  not_barred may = nothing_of (known_by_relay H h.relay own).waiting (by (is_none (known_by_relay H h.relay own).waiting) refl) where
+  none_waits : is_barred (now H) (known_by_relay H h.relay own) ≡ false → is_none (known_by_relay H h.relay own).waiting ≡ true
+  none_waits may = by (is_none (known_by_relay H h.relay own).waiting) refl where
     back : is_none (known_by_relay H h.relay own).waiting ≡ false → is_barred (now H) (known_by_relay H h.relay own) ≡ true
-    back = kept_back lab h.relay r (relay_there the_three) own H from.are.grown over
+    back = relay_kept_back lab h.relay r (relay_there the_three) own H from.are.grown over
 
     by : (b : Bool) → is_none (known_by_relay H h.relay own).waiting ≡ b → b ≡ true
     by true e = refl
     by false e = absurd (false≢true (sym may ∙ back e))
+
+  pub not_barred : is_barred (now H) (known_by_relay H h.relay own) ≡ false → OnlyThis x (known_by_relay H h.relay own).waiting
+  not_barred may = nothing_of (known_by_relay H h.relay own).waiting (none_waits may)
 
   cone_waits : has_cone own ≡ true → OnlyThis x (known_by_relay H h.relay own).waiting
   cone_waits cone = subst (OnlyThis x) (sym (cone_is_quiet (relay_settings lab.topology h.relay r) (journal h.relay H).entries (now H) own

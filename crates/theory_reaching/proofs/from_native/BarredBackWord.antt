@@ -30,7 +30,7 @@ held_back a = by_lines (λ (r : Reach). is_barred_word r ≡ true → IsHeldBack
           (λ _ e. elsewhere e),
           (λ _. (
             (λ barred _. record { settled = held a.settled settled; barred = barred }),
-            (λ _. ((λ _ e. elsewhere e), (λ _. ((λ _ e. elsewhere e), (λ _. ((λ _ e. elsewhere e), (λ _. ((λ _ e. elsewhere e), (λ _. ((λ _ e. elsewhere e), (λ _ e. elsewhere e))))))))))),
+            (λ _. ((λ _ e. elsewhere e), (λ _. ((λ _ e. elsewhere e), (λ _. ((λ _ e. elsewhere e), (λ _. ((λ _ e. elsewhere e), (λ _ e. elsewhere e))))))))),
           )),
         )),
       )),

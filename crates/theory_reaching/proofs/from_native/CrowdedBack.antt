@@ -1,5 +1,5 @@
 -- What a line with `full` from a native host says: somebody has no room, or the client holds most. And who is listed where there is no room for two.
-use Rattle.theory_reaching.proofs.Words.{Bool, Ip6, List, Mention, PEERS_MAX, Reach, Relayed, ap, arith, by_lines, cond, false, from_native_lines, from_native_row, has_room, has_room_for_both, is_listed, length, listed, nat_le, nat_lt, nat_tests, not, refl, true, ℕ, ◌&&◌, ◌+◌, ◌||◌, ◌≡◌, ◌≤◌}
+use Rattle.theory_reaching.proofs.Words.{Bool, Ip6, List, Mention, PEERS_MAX, Reach, Relayed, ap, arith, by_lines, cond, false, from_native_lines, from_native_row, has_room, has_room_for_both, is_listed, length, listed, nat_le, nat_lt, nat_tests, not, refl, sym, true, ℕ, ◌&&◌, ◌+◌, ◌||◌, ◌≡◌, ◌≤◌}
 use Rattle.theory_reaching.specs.declared.word.Reach.TheVariants as word
 use Rattle.theory_reaching.proofs.entries.NoRoomLeft.{over}
 use Rattle.theory_reaching.proofs.Tests.{elsewhere, held, never}
@@ -7,28 +7,40 @@ use Rattle.theory_reaching.proofs.WordTests.{is_full_word}
 
 -- WHAT THE LINES SAY
 
--- nobody is barred, and somebody has no room or holds most
+-- the lines before are passed, so nobody is barred, and somebody has no room or holds most
 pub record IsFull (a : Relayed) : Type 0 where
+  pub on : not a.on ≡ false
   pub settled : a.settled ≡ true
+  pub let_in : (a.trusts && not a.let_in) ≡ false
+  pub unknown : (a.trusts && a.trusted) ≡ false
+  pub stale : (a.fresh && not a.trusted) ≡ false
   pub unbarred : ((not a.trusted && a.barred) || (a.asks && a.bubble_barred)) ≡ false
   pub full : (not a.room || ((not a.trusted && a.holds_most) || (a.asks && not a.room_for_both))) ≡ true
 
 pub somewhere_full : (a : Relayed) → is_full_word (from_native_row a) ≡ true → IsFull a
 somewhere_full a = by_lines (λ (r : Reach). is_full_word r ≡ true → IsFull a) (from_native_lines a) word.Within6 (
   (λ _ e. elsewhere e),
-  (λ _. (
+  (λ on. (
     (λ _ e. elsewhere e),
     (λ settled. (
       (λ _ e. elsewhere e),
-      (λ _. (
+      (λ let_in. (
         (λ _ e. elsewhere e),
-        (λ _. (
+        (λ unknown. (
           (λ _ e. elsewhere e),
-          (λ _. (
+          (λ stale. (
             (λ _ e. elsewhere e),
             (λ unbarred. (
-              (λ full _. record { settled = held a.settled settled; unbarred = unbarred; full = full }),
-              (λ _. ((λ _ e. elsewhere e), (λ _. ((λ _ e. elsewhere e), (λ _. ((λ _ e. elsewhere e), (λ _. ((λ _ e. elsewhere e), (λ _ e. elsewhere e))))))))),
+              (λ full _. record {
+                on = on;
+                settled = held a.settled settled;
+                let_in = let_in;
+                unknown = unknown;
+                stale = stale;
+                unbarred = unbarred;
+                full = full;
+              }),
+              (λ _. ((λ _ e. elsewhere e), (λ _. ((λ _ e. elsewhere e), (λ _. ((λ _ e. elsewhere e), (λ _ e. elsewhere e))))))),
             )),
           )),
         )),
@@ -54,6 +66,29 @@ crowded a few is = record {
   by false true true c few e = never true refl few
   by false true false c few e = e
   by false false most c few e = e
+
+-- or nobody would be crowded without the packets that the client holds: these alone make it full
+pub record IsAlone (a : Relayed) : Type 0 where
+  pub full : IsFull a
+  pub otherwise : (not a.room || ((not a.trusted && false) || (a.asks && not a.room_for_both))) ≡ false
+
+pub only_held : (a : Relayed) → IsFull a → is_full_word (from_native_row (record a { holds_most = false })) ≡ false → IsAlone a
+only_held a is other = record { full = is; otherwise = by (not a.room || ((not a.trusted && false) || (a.asks && not a.room_for_both))) refl } where
+  by : (b : Bool) → (not a.room || ((not a.trusted && false) || (a.asks && not a.room_for_both))) ≡ b → b ≡ false
+  by false e = refl
+  by true e = never (is_full_word (from_native_row (record a { holds_most = false }))) (full_so e) other where
+    full_so : (not a.room || ((not a.trusted && false) || (a.asks && not a.room_for_both))) ≡ true
+        → is_full_word (from_native_row (record a { holds_most = false })) ≡ true
+    full_so e = rw (is.on, ap not is.settled, is.let_in, is.unknown, is.stale, is.unbarred, e) refl
+
+-- the client doesn't trust the host at the relay, and holds as many packets of it as it may
+pub holds_them : (a : Relayed) → IsAlone a → (not a.trusted && a.holds_most) ≡ true
+holds_them a is = by (not a.room) (not a.trusted && a.holds_most) (not a.trusted && false) (a.asks && not a.room_for_both) is.otherwise is.full.full where
+  by : (r t u c : Bool) → (r || (u || c)) ≡ false → (r || (t || c)) ≡ true → t ≡ true
+  by false true u c none e = refl
+  by true t u c none e = elsewhere (sym none)
+  by false false true c none e = elsewhere (sym none)
+  by false false false c none e = never c e none
 
 -- WHO IS LISTED
 

@@ -4,7 +4,7 @@ use Rattle.theory_reaching.proofs.Words.{Bool, ClientNode, ComesInTime, HostHand
 use Rattle.theory_reaching.specs.declared.word.Reach.TheVariants as word
 use Rattle.theory_reaching.proofs.Pairs.{of_native_and_client}
 use Rattle.theory_reaching.proofs.from_native.NativeMayMeetByWord.{PassesTo, SaysBack, says_back, native_may_meet}
-use Rattle.theory_reaching.proofs.NextPacket.{NextPacket}
+use Rattle.theory_reaching.proofs.NextPacket.{NextPacket, whole}
 
 -- THE WORDS
 
@@ -17,7 +17,7 @@ module _ (h : NativeNode) (d : ClientNode) (the : NextPacket (native h) (client 
   unfolding relayed
   through r by_relay trusted nine p =
       let comes = next_from_native_arrives lab H q later is chained g m n h.relay d h r (address_at lab H m) x (record {
-        nodes = native_may_meet lab H m n d h r to at by_relay trusted nine p;
+        nodes = native_may_meet lab H m n d h r to at by_relay trusted nine p (whole the);
         handed = subst (λ (z : Ip6). HostHandsIn q n z (address_at lab H m) x) (ap (address_of lab H n) at) sent.handed;
         no_reply = sent.no_reply;
       }) fresh in

@@ -1,6 +1,6 @@
--- `full` from a native host, be the packets that the client holds of it four or none: somebody has no room, so the client keeps the packet for
--- itself or drops it, or it stays at the relay.
-use Rattle.theory_reaching.proofs.Words.{AllByRecursion, Bool, Grown, IsFullOtherwise, KeepsFromNatives, PEERS_MAX, Peer, RelayNode, Some, SomeBrings, address_at, and_cases, and_parts, ap, client, client_journals, client_settings, clients_of, false, false≢true, has_cone, has_room, has_room_for_both, inl, inr, is_barred, is_listed, is_some, is_trusted_at, items_of, journal, journal_has_few, known_by, known_by_relay, length, listed, no_trust, not, not_listed, now, or_parts, peers_of, refl, relay_at, relayed, subst, sym, true, unlisted_is_unknown, ◌&&◌, ◌∙◌, ◌∷◌, ◌≡◌, ◌≤◌, ◌⊎◌}
+-- `full` from a native host: somebody has no room, so the client keeps the packet for itself or drops it, or it stays at the relay. Or the packets that the
+-- client holds of the host are all that makes it full.
+use Rattle.theory_reaching.proofs.Words.{AllByRecursion, Bool, ComesWithHeld, Contains, Grown, KeepsFromNatives, NoneButHeld, Option, PEERS_MAX, Peer, RelayNode, Relayed, Some, SomeBrings, address_at, and_cases, and_parts, ap, client, client_journals, client_settings, clients_of, false, false≢true, from_native_row, has_cone, has_room, has_room_for_both, held_from, inl, inr, is_barred, is_listed, is_some, is_trusted_at, items_of, journal, journal_has_few, known_by, known_by_relay, length, listed, native, no_trust, not, not_listed, now, or_parts, peers_of, refl, relay_at, relayed, subst, sym, true, unlisted_is_unknown, unwrap_or, ◌&&◌, ◌∙◌, ◌∷◌, ◌≡◌, ◌≤◌, ◌⊎◌}
 use Rattle.theory_settled.proofs.Earlier.{earlier}
 use Rattle.theory_reaching.specs.declared.word.Reach.TheVariants as word
 use Rattle.theory_reaching.proofs.from_native.BarredBack.{unheard, for_client, not_barred, however}
@@ -13,22 +13,16 @@ use Rattle.theory_reaching.proofs.Pairs.{of_native_and_client}
 use Rattle.theory_reaching.proofs.relays.RelayEnds.{way}
 use Rattle.theory_reaching.proofs.from_native.RoomForOne as room_for_one
 use Rattle.theory_reaching.proofs.Tests.{failed, either, second_fails}
-use Rattle.theory_reaching.proofs.WordTests.{is_full_word}
-use Rattle.theory_reaching.proofs.from_native.CrowdedBack.{IsFull, IsCrowded, somewhere_full, crowded, unlisted_beside, other_order}
+use Rattle.theory_reaching.proofs.WordTests.{is_full_word, full_word}
+use Rattle.theory_reaching.proofs.NextPacket.{NextPacket}
+use Rattle.theory_reaching.proofs.from_native.CrowdedBack.{IsFull, IsCrowded, somewhere_full, crowded, only_held, unlisted_beside, other_order}
+use Rattle.theory_reaching.proofs.from_native.HeldByWord as held_by_word
 
 pub full_is_kept : KeepsFromNatives word.Full
 unfolding relayed
-full_is_kept lab H is chained q later n m h d x g at to said sent fresh otherwise =
+full_is_kept lab H is chained q later n m h d x g at to said sent fresh =
     let s = of_native_and_client lab H n m word.Full IsFull (λ a w. somewhere_full a (ap is_full_word w)) h d at to said in
-    of s.0 s.1 (why s.0 s.1 s.2 otherwise) where
-      why : (r : RelayNode) → relay_at lab.topology h.relay ≡ Some r → IsFull (relayed lab H m d h r) → IsFullOtherwise lab H m h d
-          → IsCrowded (relayed lab H m d h r)
-      why r through is (inl few) = crowded (relayed lab H m d h r) few is
-      why r through is (inr row) =
-          let a = record (relayed lab H m d h r) { holds_most = false } in
-          let c = crowded a refl (somewhere_full a (ap is_full_word (row r through))) in
-          record { settled = c.settled; unbarred = c.unbarred; crowded = c.crowded }
-
+    either_way s.0 s.1 s.2 where
       there : Grown lab (q ∷ H)
       there = earlier lab later (q ∷ H) g
 
@@ -140,3 +134,53 @@ full_is_kept lab H is chained q later n m h d x g at to said sent fresh otherwis
           two (inl full) = some_full (and_cases (has_room (peers_of H m) (now H) h.six) (has_room (clients_of H h.relay) (now H) (address_at lab H m))
               (failed (relayed lab H m d h r).room full))
           two (inr both) = asked (and_parts (relayed lab H m d h r).asks (not (relayed lab H m d h r).room_for_both) both)
+
+      the_next : NextPacket (native h) (client d)
+      the_next = record {
+        lab = lab;
+        H = H;
+        is = is;
+        chained = chained;
+        q = q;
+        later = later;
+        n = n;
+        m = m;
+        x = x;
+        g = g;
+        at = at;
+        to = to;
+        sent = sent;
+        fresh = fresh;
+      }
+
+      -- what is seen, were no packets held
+      fewer : RelayNode → Relayed
+      fewer r = record (relayed lab H m d h r) { holds_most = false }
+
+      why : (r : RelayNode) → is_full_word (from_native_row (fewer r)) ≡ true → IsCrowded (relayed lab H m d h r)
+      why r row = let c = crowded (fewer r) refl (somewhere_full (fewer r) row) in
+          record { settled = c.settled; unbarred = c.unbarred; crowded = c.crowded }
+
+      same_relay : (r : RelayNode) → relay_at lab.topology h.relay ≡ Some r → (comes : ComesWithHeld lab H m h d x) → comes.via ≡ r
+      same_relay r through comes = ap (λ (o : Option RelayNode). unwrap_or o r) (sym comes.through ∙ through)
+
+      either_way : (r : RelayNode) → relay_at lab.topology h.relay ≡ Some r → IsFull (relayed lab H m d h r) → NoneButHeld lab H q m h d x later
+      either_way r through full = by (is_full_word (from_native_row (fewer r))) refl where
+        by : (b : Bool) → is_full_word (from_native_row (fewer r)) ≡ b → NoneButHeld lab H q m h d x later
+        by true e = record {
+          held = λ comes. absurd (comes.alone (ap (λ (z : RelayNode). from_native_row (fewer z)) (same_relay r through comes)
+              ∙ full_word (from_native_row (fewer r)) e));
+          others = λ _. of r through (why r e);
+        }
+        by false e =
+            let only = only_held (relayed lab H m d h r) full e in
+            record {
+              held = λ comes. held_by_word.comes h d the_next r through only
+                  (subst (λ (z : RelayNode). Contains (held_from z.at (known_by H m h.six).held) x) (same_relay r through comes) comes.held);
+              others = λ other. held_by_word.never_comes h d the_next r through only (λ among. other (record {
+                via = r;
+                through = through;
+                held = among;
+                alone = λ w. false≢true (sym e ∙ ap is_full_word w);
+              }));
+            }

@@ -2,7 +2,9 @@
 use Rattle.theory_reaching.proofs.Words.{Bool, ClientNode, Full, Ip6, IsLetIn, Lab, List, MayAskClient, MayMeetThroughRelay, MayTest, NativeNode, Reach, RelayNode, Relayed, Some, address_at, and_parts, ap, as_client, by_lines, client, clients_of, embedded, false, from_native_lines, from_native_row, has_room, inl, inr, is_barred, is_trusted_at, known_by, known_by_relay, must_ask, native, node_at, not, now, option_and_then, or_parts, peers_of, refl, relay_at, relayed, true, trusts_client, ℕ, ◌&&◌, ◌||◌, ◌≡◌, ◌⊎◌}
 use Rattle.theory_reaching.specs.declared.word.Reach.TheVariants as word
 use Rattle.theory_reaching.proofs.Tests.{held, second_fails, first_fails}
-use Rattle.theory_reaching.proofs.clients.MayMeetByWord.{no_packets}
+use Rattle.theory_reaching.proofs.waiting.KeptBack.{none_kept}
+use Rattle.theory_reaching.proofs.waiting.OverEvents.{IsWhole}
+use Rattle.theory_reaching.proofs.waiting.RelayAdds.{relay_kept_back}
 use Rattle.theory_reaching.proofs.relays.Relays.{relay_is_there}
 use Rattle.theory_reaching.proofs.clients.SettledClients.{let_in, settled_along}
 use Rattle.theory_reaching.proofs.entries.RoomForBoth.{room_for_second, room_for_two}
@@ -26,7 +28,6 @@ pub record PassesTo (trusted nine : Bool) (a : Relayed) : Type 0 where
   pub stale : (a.fresh && not a.trusted) ≡ false
   pub unbarred : ((not a.trusted && a.barred) || (a.asks && a.bubble_barred)) ≡ false
   pub room : (not a.room || ((not a.trusted && a.holds_most) || (a.asks && not a.room_for_both))) ≡ false
-  pub nothing_waits : (a.asks && a.relay_keeps) ≡ false
   pub host_trusted : a.trusted ≡ trusted
   pub asks : a.asks ≡ nine
 
@@ -60,16 +61,12 @@ says_back a = by_lines (SaysBack a) (from_native_lines a) word.Within6 (
             (λ unbarred. (
               (λ _. tt),
               (λ room. (
-                (λ _. tt),
-                (λ nothing_waits. (
-                  (λ both. let parts = and_parts a.trusted a.asks both in all true true settled let_in stale unbarred room nothing_waits parts.0 parts.1),
-                  (λ not_both. (
-                    (λ trusted. inr (all true false settled let_in stale unbarred room nothing_waits trusted
-                        (second_fails a.trusted a.asks not_both trusted))),
-                    (λ untrusted. (
-                      (λ asks. all false true settled let_in stale unbarred room nothing_waits untrusted asks),
-                      (λ asks. all false false settled let_in stale unbarred room nothing_waits untrusted asks),
-                    )),
+                (λ both. let parts = and_parts a.trusted a.asks both in all true true settled let_in stale unbarred room parts.0 parts.1),
+                (λ not_both. (
+                  (λ trusted. inr (all true false settled let_in stale unbarred room trusted (second_fails a.trusted a.asks not_both trusted))),
+                  (λ untrusted. (
+                    (λ asks. all false true settled let_in stale unbarred room untrusted asks),
+                    (λ asks. all false false settled let_in stale unbarred room untrusted asks),
                   )),
                 )),
               )),
@@ -82,15 +79,14 @@ says_back a = by_lines (SaysBack a) (from_native_lines a) word.Within6 (
 ) where
   all : (trusted nine : Bool) → not a.settled ≡ false → (a.trusts && not a.let_in) ≡ false → (a.fresh && not a.trusted) ≡ false
       → ((not a.trusted && a.barred) || (a.asks && a.bubble_barred)) ≡ false
-      → (not a.room || ((not a.trusted && a.holds_most) || (a.asks && not a.room_for_both))) ≡ false → (a.asks && a.relay_keeps) ≡ false
-      → a.trusted ≡ trusted → a.asks ≡ nine → PassesTo trusted nine a
-  all trusted nine settled let_in stale unbarred room nothing_waits host_trusted asks = record {
+      → (not a.room || ((not a.trusted && a.holds_most) || (a.asks && not a.room_for_both))) ≡ false → a.trusted ≡ trusted → a.asks ≡ nine
+      → PassesTo trusted nine a
+  all trusted nine settled let_in stale unbarred room host_trusted asks = record {
     settled = held a.settled settled;
     let_in = let_in;
     stale = stale;
     unbarred = unbarred;
     room = room;
-    nothing_waits = nothing_waits;
     host_trusted = host_trusted;
     asks = asks;
   }
@@ -112,17 +108,18 @@ module _ (lab : Lab) (H : List Full) (n m : ℕ) (c : ClientNode) (h : NativeNod
       let_in lab H n c r.at (embedded own) at (held w.let_in (second_fails w.trusts (not w.let_in) open_way trusts))
 
   -- where the relay must hear from the client first, it may ask
-  pub asks : ((relayed lab H n c h r).asks && (relayed lab H n c h r).bubble_barred) ≡ false
-      → ((relayed lab H n c h r).asks && not (relayed lab H n c h r).room_for_both) ≡ false
-      → ((relayed lab H n c h r).asks && (relayed lab H n c h r).relay_keeps) ≡ false → must_ask H h.relay own ≡ true → MayAskClient H n h.relay own h.six r.six
+  pub asks : IsWhole lab H → ((relayed lab H n c h r).asks && (relayed lab H n c h r).bubble_barred) ≡ false
+      → ((relayed lab H n c h r).asks && not (relayed lab H n c h r).room_for_both) ≡ false → must_ask H h.relay own ≡ true
+      → MayAskClient H n h.relay own h.six r.six
   unfolding relayed
-  asks unbarred room nothing_waits must =
+  asks whole unbarred room must =
       let w = relayed lab H n c h r in
       let bubbles = or_parts (is_barred (now H) (known_by_relay H h.relay own)) (is_barred (now H) (known_by H n r.six))
       (second_fails w.asks w.bubble_barred unbarred must) in
       let both = held w.room_for_both (second_fails w.asks (not w.room_for_both) room must) in
       record {
-        nothing_waits = no_packets (known_by_relay H h.relay own) (second_fails w.asks w.relay_keeps nothing_waits must);
+        nothing_waits = none_kept (now H) (known_by_relay H h.relay own)
+            (relay_kept_back lab h.relay r (relay_is_there lab.topology h.relay r through) own H whole.grown whole.over) bubbles.0;
         relay_unbarred = bubbles.0;
         client_unbarred = bubbles.1;
         room = room_for_second (peers_of H n) (now H) h.six r.six both;
@@ -144,9 +141,9 @@ module _ (lab : Lab) (H : List Full) (n m : ℕ) (c : ClientNode) (h : NativeNod
           kept = second_fails (not w.trusted) w.holds_most kept.0 (ap not untrusted);
         }
 
-    pub native_may_meet : MayMeetThroughRelay lab H n m h.relay c h r own
+    pub native_may_meet : IsWhole lab H → MayMeetThroughRelay lab H n m h.relay c h r own
     unfolding relayed
-    native_may_meet =
+    native_may_meet whole =
         let w = relayed lab H n c h r in
         let room = or_parts (not w.room) ((not w.trusted && w.holds_most) || (w.asks && not w.room_for_both)) p.room in
         let places_left = or_parts (not w.trusted && w.holds_most) (w.asks && not w.room_for_both) room.1 in
@@ -161,5 +158,5 @@ module _ (lab : Lab) (H : List Full) (n m : ℕ) (c : ClientNode) (h : NativeNod
           host_room = rooms.0;
           client_room = rooms.1;
           may_test = tests;
-          may_ask = asks (or_parts (not w.trusted && w.barred) (w.asks && w.bubble_barred) p.unbarred).1 places_left.1 p.nothing_waits;
+          may_ask = asks whole (or_parts (not w.trusted && w.barred) (w.asks && w.bubble_barred) p.unbarred).1 places_left.1;
         }

@@ -33,7 +33,7 @@ why_stale a = by_lines (λ (r : Reach). is_stale r ≡ true → IsShutOff a ⊎ 
         (λ _ e. elsewhere e),
         (λ _. (
           (λ fresh _. inr (record { settled = held a.settled settled; fresh = fresh })),
-          (λ _. ((λ _ e. elsewhere e), (λ _. ((λ _ e. elsewhere e), (λ _. ((λ _ e. elsewhere e), (λ _. ((λ _ e. elsewhere e), (λ _. ((λ _ e. elsewhere e), (λ _. ((λ _ e. elsewhere e), (λ _ e. elsewhere e))))))))))))),
+          (λ _. ((λ _ e. elsewhere e), (λ _. ((λ _ e. elsewhere e), (λ _. ((λ _ e. elsewhere e), (λ _. ((λ _ e. elsewhere e), (λ _. ((λ _ e. elsewhere e), (λ _ e. elsewhere e))))))))))),
         )),
       )),
     )),

@@ -1,7 +1,8 @@
 -- `within 2`: between a client and a native host, through a relay that knows the client.
-use Rattle.theory_reaching.proofs.Words.{Bool, ClientNode, ComesInTime, Grown, HostHandsIn, Ip6, KeepsItsPromise, NativeNode, Node, Reach, RelayNode, Relayed, Some, TwoClients, WayIn, address_at, address_of, and_parts, ap, asked_along, between_clients_lines, between_clients_row, by_lines, client, embedded, enters_by_its_way, false, inl, inr, known_by_relay, native, nats_of, not, now, refl, relay_at, relayed, sound_first, subst, sym, to_native_lines, to_native_row, true, two_clients, ◌&&◌, ◌∷◌, ◌≡◌, ◌⊎◌}
+use Rattle.theory_reaching.proofs.Words.{Bool, ClientNode, ComesInTime, Grown, HostHandsIn, Ip6, KeepsItsPromise, NativeNode, Node, Reach, RelayNode, Relayed, Some, TwoClients, WayIn, address_at, address_of, and_parts, ap, asked_along, between_clients_lines, between_clients_row, by_lines, client, embedded, enters_by_its_way, false, inl, inr, known_by_relay, late_native_lines, native, nats_of, not, now, refl, relay_at, relayed, sound_first, subst, sym, to_native_row, true, two_clients, ◌&&◌, ◌∷◌, ◌≡◌, ◌⊎◌}
 use Rattle.theory_settled.proofs.Earlier.{earlier}
 use Rattle.theory_reaching.specs.declared.word.Reach.TheVariants as word
+use Rattle.theory_reaching.proofs.to_native.OpeningLines.{past_opening}
 use Rattle.theory_reaching.proofs.Tests.{elsewhere, held, failed, second_fails}
 use Rattle.theory_reaching.proofs.Lines.{which_held}
 use Rattle.theory_reaching.proofs.clients.MayMeetByWord.{no_packets}
@@ -27,28 +28,25 @@ record IsKnownOut (a : Relayed) : Type 0 where
   known : (a.fresh && (a.trusted && not a.relay_keeps)) ≡ true
 
 known_out : (a : Relayed) → is_two (to_native_row a) ≡ true → IsKnownOut a
-known_out a = by_lines (λ (r : Reach). is_two r ≡ true → IsKnownOut a) (to_native_lines a) word.Within6 (
+known_out a = past_opening (λ (r : Reach). is_two r ≡ true → IsKnownOut a) a (λ e. elsewhere e) (λ e. elsewhere e) (by_lines (λ (r : Reach). is_two r ≡ true → IsKnownOut a) (late_native_lines a) word.Within6 (
   (λ _ e. elsewhere e),
-  (λ _. (
+  (λ settled. (
     (λ _ e. elsewhere e),
-    (λ settled. (
-      (λ _ e. elsewhere e),
-      (λ unlisted. (
-        (λ known _. record { settled = held a.settled settled; unlisted = unlisted; known = known }),
+    (λ unlisted. (
+      (λ known _. record { settled = held a.settled settled; unlisted = unlisted; known = known }),
+      (λ _. (
+        (λ _ e. elsewhere e),
         (λ _. (
           (λ _ e. elsewhere e),
           (λ _. (
             (λ _ e. elsewhere e),
-            (λ _. (
-              (λ _ e. elsewhere e),
-              (λ _. ((λ _ e. elsewhere e), (λ _. ((λ _ e. elsewhere e), (λ _. ((λ _ e. elsewhere e), (λ _ e. elsewhere e))))))),
-            )),
+            (λ _. ((λ _ e. elsewhere e), (λ _. ((λ _ e. elsewhere e), (λ _ e. elsewhere e))))),
           )),
         )),
       )),
     )),
   )),
-)
+))
 
 -- it is never said of two clients
 never_between : (a : TwoClients) → is_two (between_clients_row a) ≡ true → ⊥

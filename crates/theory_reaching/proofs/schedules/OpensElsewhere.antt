@@ -1,5 +1,6 @@
 -- A client that sends to its server alone opens its NATs to nobody else: what somebody else is let in after it he was let in before.
-use Rattle.theory_reaching.proofs.Words.{All, All-cons, All-contains, All-contains_itself, AllByRecursion, Asked, Bool, Cone, Contains, Ep, Err, Full, Grown, Ip4, IsCalmNext, Lab, List, NatEntry, NatKind, NatPasts, NatRefusal, Ok, Option, Out, Outward, Passing, Port, Restricted, Result, Send, Some, Symmetric, TopologyState, Way, WayIn, [], after_passing, answered, any_dst, ap, by_way, cond, counting, counting_datagram_holds_its_port, crossing, crossing_unless, false, false≢true, inl, inr, is_at_place, is_symmetric, is_young, list_any, live_after, live_port, nat_answer, nat_history, nat_of, nat_pasts, nat_set_up, now, or_parts, outs_at, passing, set_up_past, still_way, subst, sym, true, unwrap_or, ℕ, ◌++◌, ◌+◌, ◌==◌, ◌∙◌, ◌∷◌, ◌≡◌, ◌⊎◌}
+use Rattle.theory_reaching.proofs.Words.{All, All-cons, All-contains, All-contains_itself, AllByRecursion, Asked, Bool, Cone, Contains, Ep, Err, Full, Grown, Ip4, IsCalmNext, Lab, List, NatEntry, NatKind, NatPasts, NatRefusal, Ok, Option, Out, Outward, Passing, Port, Restricted, Result, Send, Some, Symmetric, TopologyState, Way, WayIn, [], after_passing, any_dst, ap, by_way, cond, counting, counting_datagram_holds_its_port, crossing, crossing_unless, false, false≢true, inl, inr, is_at_place, is_symmetric, is_young, list_any, live_after, live_port, nat_answer, nat_history, nat_of, nat_pasts, nat_set_up, now, or_parts, outs_at, passing, set_up_past, still_way, subst, sym, true, unwrap_or, ℕ, ◌++◌, ◌+◌, ◌==◌, ◌∙◌, ◌∷◌, ◌≡◌, ◌⊎◌}
+use Rattle.topology.specs.Chains.{answered}
 
 -- WHAT PASSES NATS
 

@@ -1,9 +1,10 @@
 -- `barred` to a native host: the client is barred for it and sends nothing; or the relay must ask for the client, and is barred for it or the
 -- client for the relay, so that the reply to the client's test doesn't come.
-use Rattle.theory_reaching.proofs.Words.{KeepsToNatives, NoneButItsTest, Reach, RelayNode, Relayed, Some, SomeBrings, address_at, and_parts, ap, by_lines, false, has_cone, inl, inr, is_barred, is_some, known_by, known_by_relay, native, not, now, relay_at, relayed, to_native_lines, to_native_row, true, ◌&&◌, ◌||◌, ◌≡◌, ◌⊎◌}
+use Rattle.theory_reaching.proofs.Words.{KeepsToNatives, NoneButItsTest, Reach, RelayNode, Relayed, Some, SomeBrings, address_at, and_parts, ap, by_lines, false, has_cone, inl, inr, is_barred, is_some, known_by, known_by_relay, late_native_lines, native, not, now, relay_at, relayed, to_native_row, true, ◌&&◌, ◌||◌, ◌≡◌, ◌⊎◌}
 use Rattle.theory_reaching.specs.declared.word.Reach.TheVariants as word
 use Rattle.theory_reaching.proofs.to_native.Outwards as outwards
 use Rattle.theory_reaching.proofs.to_native.Outwards.{GoesOutwards}
+use Rattle.theory_reaching.proofs.to_native.OpeningLines.{past_opening}
 use Rattle.theory_reaching.proofs.Tests.{elsewhere, held, failed, either}
 use Rattle.theory_reaching.proofs.WordTests.{is_barred_word}
 use Rattle.theory_reaching.proofs.Pairs.{of_client_and_native}
@@ -22,28 +23,25 @@ record IsHeldBack (a : Relayed) : Type 0 where
   barred : (a.barred || (a.asks && a.bubble_barred)) ≡ true
 
 held_back : (a : Relayed) → is_barred_word (to_native_row a) ≡ true → IsHeldBack a
-held_back a = by_lines (λ (r : Reach). is_barred_word r ≡ true → IsHeldBack a) (to_native_lines a) word.Within6 (
+held_back a = past_opening (λ (r : Reach). is_barred_word r ≡ true → IsHeldBack a) a (λ e. elsewhere e) (λ e. elsewhere e) (by_lines (λ (r : Reach). is_barred_word r ≡ true → IsHeldBack a) (late_native_lines a) word.Within6 (
   (λ _ e. elsewhere e),
-  (λ _. (
+  (λ settled. (
     (λ _ e. elsewhere e),
-    (λ settled. (
+    (λ _. (
       (λ _ e. elsewhere e),
       (λ _. (
         (λ _ e. elsewhere e),
-        (λ _. (
+        (λ stale. (
           (λ _ e. elsewhere e),
-          (λ stale. (
-            (λ _ e. elsewhere e),
-            (λ _. (
-              (λ barred _. record { settled = held a.settled settled; stale = stale; barred = barred }),
-              (λ _. ((λ _ e. elsewhere e), (λ _. ((λ _ e. elsewhere e), (λ _. ((λ _ e. elsewhere e), (λ _ e. elsewhere e))))))),
-            )),
+          (λ _. (
+            (λ barred _. record { settled = held a.settled settled; stale = stale; barred = barred }),
+            (λ _. ((λ _ e. elsewhere e), (λ _. ((λ _ e. elsewhere e), (λ _ e. elsewhere e))))),
           )),
         )),
       )),
     )),
   )),
-)
+))
 
 -- THE WORD
 

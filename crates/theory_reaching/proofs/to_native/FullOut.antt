@@ -1,9 +1,10 @@
 -- `full` to a native host: the client has no room for it and sends nothing; or the relay has none for the client, or must ask for it and
 -- the client has no room for both, so that the reply to the client's test doesn't come.
-use Rattle.theory_reaching.proofs.Words.{Bool, KeepsToNatives, NoneButItsTest, Peer, Reach, RelayNode, Relayed, Some, SomeBrings, address_at, and_cases, and_parts, ap, by_lines, clients_of, false, has_cone, has_room, has_room_for_both, inl, inr, is_some, known_by_relay, native, not, not_listed, now, peers_of, refl, relay_at, relayed, to_native_lines, to_native_row, true, unlisted_is_unknown, ◌&&◌, ◌||◌, ◌≡◌, ◌⊎◌}
+use Rattle.theory_reaching.proofs.Words.{Bool, KeepsToNatives, NoneButItsTest, Peer, Reach, RelayNode, Relayed, Some, SomeBrings, address_at, and_cases, and_parts, ap, by_lines, clients_of, false, has_cone, has_room, has_room_for_both, inl, inr, is_some, known_by_relay, late_native_lines, native, not, not_listed, now, peers_of, refl, relay_at, relayed, to_native_row, true, unlisted_is_unknown, ◌&&◌, ◌||◌, ◌≡◌, ◌⊎◌}
 use Rattle.theory_reaching.specs.declared.word.Reach.TheVariants as word
 use Rattle.theory_reaching.proofs.to_native.Outwards as outwards
 use Rattle.theory_reaching.proofs.to_native.Outwards.{GoesOutwards}
+use Rattle.theory_reaching.proofs.to_native.OpeningLines.{past_opening}
 use Rattle.theory_reaching.proofs.Tests.{elsewhere, held, failed, either}
 use Rattle.theory_reaching.proofs.WordTests.{is_full_word}
 use Rattle.theory_reaching.proofs.Pairs.{of_client_and_native}
@@ -22,31 +23,28 @@ record IsCrowded (a : Relayed) : Type 0 where
   crowded : (not a.room || (a.asks && not a.room_for_both)) ≡ true
 
 crowded : (a : Relayed) → is_full_word (to_native_row a) ≡ true → IsCrowded a
-crowded a = by_lines (λ (r : Reach). is_full_word r ≡ true → IsCrowded a) (to_native_lines a) word.Within6 (
+crowded a = past_opening (λ (r : Reach). is_full_word r ≡ true → IsCrowded a) a (λ e. elsewhere e) (λ e. elsewhere e) (by_lines (λ (r : Reach). is_full_word r ≡ true → IsCrowded a) (late_native_lines a) word.Within6 (
   (λ _ e. elsewhere e),
-  (λ _. (
+  (λ settled. (
     (λ _ e. elsewhere e),
-    (λ settled. (
+    (λ _. (
       (λ _ e. elsewhere e),
       (λ _. (
         (λ _ e. elsewhere e),
-        (λ _. (
+        (λ stale. (
           (λ _ e. elsewhere e),
-          (λ stale. (
+          (λ _. (
             (λ _ e. elsewhere e),
             (λ _. (
-              (λ _ e. elsewhere e),
-              (λ _. (
-                (λ full _. record { settled = held a.settled settled; stale = stale; crowded = full }),
-                (λ _. ((λ _ e. elsewhere e), (λ _. ((λ _ e. elsewhere e), (λ _ e. elsewhere e))))),
-              )),
+              (λ full _. record { settled = held a.settled settled; stale = stale; crowded = full }),
+              (λ _. ((λ _ e. elsewhere e), (λ _ e. elsewhere e))),
             )),
           )),
         )),
       )),
     )),
   )),
-)
+))
 
 -- THE WORD
 

@@ -1,8 +1,11 @@
 -- `within 6` and `within 9` to a native host: the lines before them say that the client may reach the host through its relay.
-use Rattle.theory_reaching.proofs.Words.{Bool, ClientNode, Full, Grown, Ip6, IsRelayJournal, Lab, List, MayAskClient, MayReachNative, NativeNode, Reach, RelayNode, Relayed, Some, [], address_at, and_parts, ap, as_client, by_lines, client, clients_of, cone_is_quiet, false, has_cone, has_room, journal, known_by, known_by_relay, must_ask, native, node_at, not, now, option_and_then, or_parts, peers_of, refl, relay_at, relay_journals, relay_settings, relayed, to_native_lines, to_native_row, true, trusts_client, ℕ, ◌&&◌, ◌||◌, ◌∙◌, ◌≡◌}
+use Rattle.theory_reaching.proofs.Words.{Bool, ClientNode, Full, Ip6, IsRelayJournal, Lab, List, MayAskClient, MayReachNative, NativeNode, Reach, RelayNode, Relayed, Some, [], address_at, and_parts, ap, as_client, by_lines, client, clients_of, cone_is_quiet, false, has_cone, has_room, journal, known_by, known_by_relay, late_native_lines, must_ask, native, node_at, not, now, option_and_then, or_parts, peers_of, refl, relay_at, relay_journals, relay_settings, relayed, to_native_row, true, trusts_client, ℕ, ◌&&◌, ◌||◌, ◌∙◌, ◌≡◌}
 use Rattle.theory_reaching.specs.declared.word.Reach.TheVariants as word
+use Rattle.theory_reaching.proofs.to_native.OpeningLines.{past_opening}
 use Rattle.theory_reaching.proofs.Tests.{elsewhere, held}
-use Rattle.theory_reaching.proofs.clients.MayMeetByWord.{no_packets}
+use Rattle.theory_reaching.proofs.waiting.ClientAdds.{client_kept_back}
+use Rattle.theory_reaching.proofs.waiting.KeptBack.{none_kept}
+use Rattle.theory_reaching.proofs.waiting.OverEvents.{IsWhole}
 use Rattle.theory_reaching.proofs.relays.Relays.{relay_is_there}
 use Rattle.theory_reaching.proofs.clients.SettledClients.{let_in, settled_along}
 use Rattle.theory_reaching.proofs.from_native.NativeMayMeetByWord.{is_nine, is_tested, opened, asks}
@@ -17,33 +20,26 @@ pub record PassesOut (nine : Bool) (a : Relayed) : Type 0 where
   pub let_in : (a.trusts && not a.let_in) ≡ false
   pub unbarred : (a.barred || (a.asks && a.bubble_barred)) ≡ false
   pub room : (not a.room || (a.asks && not a.room_for_both)) ≡ false
-  pub nothing_waits : (a.keeps || (a.asks && a.relay_keeps)) ≡ false
   pub asks : a.asks ≡ nine
 
 pub passes_out : (a : Relayed) → is_tested (to_native_row a) ≡ true → PassesOut (is_nine (to_native_row a)) a
-passes_out a = by_lines (λ (r : Reach). is_tested r ≡ true → PassesOut (is_nine r) a) (to_native_lines a) word.Within6 (
+passes_out a = past_opening (λ (r : Reach). is_tested r ≡ true → PassesOut (is_nine r) a) a (λ e. elsewhere e) (λ e. elsewhere e) (by_lines (λ (r : Reach). is_tested r ≡ true → PassesOut (is_nine r) a) (late_native_lines a) word.Within6 (
   (λ _ e. elsewhere e),
-  (λ _. (
+  (λ settled. (
     (λ _ e. elsewhere e),
-    (λ settled. (
+    (λ _. (
       (λ _ e. elsewhere e),
       (λ _. (
         (λ _ e. elsewhere e),
-        (λ _. (
+        (λ stale. (
           (λ _ e. elsewhere e),
-          (λ stale. (
+          (λ let_in. (
             (λ _ e. elsewhere e),
-            (λ let_in. (
+            (λ unbarred. (
               (λ _ e. elsewhere e),
-              (λ unbarred. (
-                (λ _ e. elsewhere e),
-                (λ room. (
-                  (λ _ e. elsewhere e),
-                  (λ nothing_waits. (
-                    (λ asks _. all true settled stale let_in unbarred room nothing_waits asks),
-                    (λ asks _. all false settled stale let_in unbarred room nothing_waits asks),
-                  )),
-                )),
+              (λ room. (
+                (λ asks _. all true settled stale let_in unbarred room asks),
+                (λ asks _. all false settled stale let_in unbarred room asks),
               )),
             )),
           )),
@@ -51,23 +47,22 @@ passes_out a = by_lines (λ (r : Reach). is_tested r ≡ true → PassesOut (is_
       )),
     )),
   )),
-) where
+)) where
   all : (nine : Bool) → not a.settled ≡ false → a.fresh ≡ false → (a.trusts && not a.let_in) ≡ false → (a.barred || (a.asks && a.bubble_barred)) ≡ false
-      → (not a.room || (a.asks && not a.room_for_both)) ≡ false → (a.keeps || (a.asks && a.relay_keeps)) ≡ false → a.asks ≡ nine → PassesOut nine a
-  all nine settled stale let_in unbarred room nothing_waits asks = record {
+      → (not a.room || (a.asks && not a.room_for_both)) ≡ false → a.asks ≡ nine → PassesOut nine a
+  all nine settled stale let_in unbarred room asks = record {
     settled = held a.settled settled;
     stale = stale;
     let_in = let_in;
     unbarred = unbarred;
     room = room;
-    nothing_waits = nothing_waits;
     asks = asks;
   }
 
 -- WHAT THE THREE ARE
 
 -- node n is the client c, and node m the native h, whose relay is r
-module _ (lab : Lab) (H : List Full) (grown : Grown lab H) (n m : ℕ) (c : ClientNode) (h : NativeNode) (r : RelayNode)
+module _ (lab : Lab) (H : List Full) (whole : IsWhole lab H) (n m : ℕ) (c : ClientNode) (h : NativeNode) (r : RelayNode)
     (at : node_at lab.topology n ≡ Some (client c)) (to : node_at lab.topology m ≡ Some (native h)) (through : relay_at lab.topology h.relay ≡ Some r) where
   abbrev own : Ip6
   own = address_at lab H n
@@ -77,14 +72,14 @@ module _ (lab : Lab) (H : List Full) (grown : Grown lab H) (n m : ℕ) (c : Clie
     may_ask : must_ask H h.relay own ≡ true → MayAskClient H n h.relay own h.six r.six
     may_ask =
         let w = relayed lab H n c h r in
-        asks lab H n m c h r at to through (or_parts w.barred (w.asks && w.bubble_barred) p.unbarred).1
-        (or_parts (not w.room) (w.asks && not w.room_for_both) p.room).1 (or_parts w.keeps (w.asks && w.relay_keeps) p.nothing_waits).1
+        asks lab H n m c h r at to through whole (or_parts w.barred (w.asks && w.bubble_barred) p.unbarred).1
+        (or_parts (not w.room) (w.asks && not w.room_for_both) p.room).1
 
     -- nothing waits for the client at the relay: it trusts the client, the client has the cone bit, or the line says so
     relay_idle : (known_by_relay H h.relay own).waiting ≡ []
     relay_idle = by (trusts_client H h.relay own) (has_cone own) refl refl where
       is_journal : IsRelayJournal (relay_settings lab.topology h.relay r) (journal h.relay H).entries
-      is_journal = (relay_journals lab H h.relay r grown (relay_is_there lab.topology h.relay r through)).journal
+      is_journal = (relay_journals lab H h.relay r whole.grown (relay_is_there lab.topology h.relay r through)).journal
 
       by : (t b : Bool) → trusts_client H h.relay own ≡ t → has_cone own ≡ b → (known_by_relay H h.relay own).waiting ≡ []
       by true b trusts cone =
@@ -110,7 +105,8 @@ module _ (lab : Lab) (H : List Full) (grown : Grown lab H) (n m : ℕ) (c : Clie
           client_room = rooms.1;
           stale = p.stale;
           unbarred = (or_parts w.barred (w.asks && w.bubble_barred) p.unbarred).0;
-          nothing_waits = no_packets (known_by H n h.six) (or_parts w.keeps (w.asks && w.relay_keeps) p.nothing_waits).0;
+          nothing_waits = none_kept (now H) (known_by H n h.six) (client_kept_back lab n c at h.six H whole.grown whole.over)
+              (or_parts w.barred (w.asks && w.bubble_barred) p.unbarred).0;
           relay_idle = relay_idle;
           may_ask = may_ask;
         }

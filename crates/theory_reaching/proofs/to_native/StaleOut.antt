@@ -1,9 +1,10 @@
 -- `stale` to a native host: the relay doesn't list the client, to which the packet goes at once; or the client asks first, and the
 -- answer isn't let in to it.
-use Rattle.theory_reaching.proofs.Words.{KeepsToNatives, NoneButItsTest, Reach, RelayNode, Relayed, Some, and_parts, ap, by_lines, false, inl, inr, not, relay_at, relayed, to_native_lines, to_native_row, true, ◌&&◌, ◌≡◌, ◌⊎◌}
+use Rattle.theory_reaching.proofs.Words.{KeepsToNatives, NoneButItsTest, Reach, RelayNode, Relayed, Some, and_parts, ap, by_lines, false, inl, inr, late_native_lines, not, relay_at, relayed, to_native_row, true, ◌&&◌, ◌≡◌, ◌⊎◌}
 use Rattle.theory_reaching.specs.declared.word.Reach.TheVariants as word
 use Rattle.theory_reaching.proofs.to_native.Outwards as outwards
 use Rattle.theory_reaching.proofs.to_native.Outwards.{GoesOutwards}
+use Rattle.theory_reaching.proofs.to_native.OpeningLines.{past_opening}
 use Rattle.theory_reaching.proofs.Tests.{elsewhere, held, failed}
 use Rattle.theory_reaching.proofs.WordTests.{is_stale}
 use Rattle.theory_reaching.proofs.Pairs.{of_client_and_native}
@@ -25,28 +26,26 @@ record IsShutOff (a : Relayed) : Type 0 where
   shut : (a.trusts && not a.let_in) ≡ true
 
 why_stale : (a : Relayed) → is_stale (to_native_row a) ≡ true → IsForgotten a ⊎ IsShutOff a
-why_stale a = by_lines (λ (r : Reach). is_stale r ≡ true → IsForgotten a ⊎ IsShutOff a) (to_native_lines a) word.Within6 (
-  (λ _ e. elsewhere e),
-  (λ _. (
-    (λ _ e. elsewhere e),
-    (λ settled. (
-      (λ unlisted _. inl (record { settled = held a.settled settled; unlisted = unlisted })),
-      (λ _. (
-        (λ _ e. elsewhere e),
+why_stale a = past_opening (λ (r : Reach). is_stale r ≡ true → IsForgotten a ⊎ IsShutOff a) a
+    (λ e. elsewhere e) (λ e. elsewhere e) (by_lines (λ (r : Reach). is_stale r ≡ true → IsForgotten a ⊎ IsShutOff a) (late_native_lines a) word.Within6 (
+      (λ _ e. elsewhere e),
+      (λ settled. (
+        (λ unlisted _. inl (record { settled = held a.settled settled; unlisted = unlisted })),
         (λ _. (
           (λ _ e. elsewhere e),
-          (λ stale. (
-            (λ shut _. inr (record { settled = held a.settled settled; stale = stale; shut = shut })),
-            (λ _. (
-              (λ _ e. elsewhere e),
-              (λ _. ((λ _ e. elsewhere e), (λ _. ((λ _ e. elsewhere e), (λ _. ((λ _ e. elsewhere e), (λ _ e. elsewhere e))))))),
+          (λ _. (
+            (λ _ e. elsewhere e),
+            (λ stale. (
+              (λ shut _. inr (record { settled = held a.settled settled; stale = stale; shut = shut })),
+              (λ _. (
+                (λ _ e. elsewhere e),
+                (λ _. ((λ _ e. elsewhere e), (λ _. ((λ _ e. elsewhere e), (λ _ e. elsewhere e))))),
+              )),
             )),
           )),
         )),
       )),
-    )),
-  )),
-)
+    ))
 
 -- THE WORD
 

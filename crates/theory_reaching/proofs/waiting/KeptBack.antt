@@ -1,9 +1,7 @@
--- A relay's packets that wait for a client: they go on to wait for one for whom the relay is barred.
-use Rattle.theory_reaching.proofs.Words.{Bearing, Bool, Entry, Ep, Fate, Input, Ip6, LISTED_MS, List, Mention, None, Option, Peer, RelayGiven, RelaySeen, RelaySettings, RelayStanding, Some, Step, TRY_GAP_MS, [], after, ap, arith, arrived, cond, destination_in, due_of, false, false≢true, fate_of_reception, fields_in, filter, first_of_each, from_six, inl, inr, is_about, is_barred, is_none, is_peer, is_spent, is_younger, known, list_any, nat_tests, no_peer, one_entry, option_to_list, or_left, or_right, peer_at, peer_if, reception_lines, refl, relay_bearing_of, relay_entry, relay_fate_of_transmission, relay_given, relay_in, relay_known_in, relay_mention, relay_mentions, relay_queues, relay_reception_row, relay_seen, relay_six, relay_standing_at, relay_standing_of, relay_transmission, relay_transmission_row, relay_transmission_step, same_ip6-true, source_in, subst, sym, ticked, tries_after, true, unspecified, unwrap_or, ℕ, ◌++◌, ◌+◌, ◌<◌, ◌||◌, ◌∙◌, ◌∷◌, ◌≡◌, ◌⊎◌}
+-- Packets that wait for a peer, at a client or a relay: whoever has some is barred for the peer, and an entry more leaves it so.
+use Rattle.theory_reaching.proofs.Words.{Bool, Input, Ip6, LISTED_MS, List, Mention, None, Option, Peer, Some, TRY_GAP_MS, [], ap, arith, cond, due_of, false, false≢true, filter, inl, inr, is_about, is_barred, is_listed, is_none, is_peer, is_spent, is_younger, known, list_any, nat_tests, no_peer, one_entry, option_to_list, or_left, or_right, peer_at, peer_if, refl, same_ip6-true, subst, sym, ticked, tries_after, true, unlisted_is_unknown, unspecified, unwrap_or, ℕ, ◌++◌, ◌+◌, ◌<◌, ◌||◌, ◌∙◌, ◌∷◌, ◌≡◌, ◌⊎◌}
+use Rattle.peer_list.specs.Laws.{after}
 use Rattle.std.proofs.lemmas.List.{append-nil}
-use Rattle.teredo_node.specs.declared.fate.Fate.TheVariants as fate
-use Rattle.teredo_node.specs.Journal.{given}
-use Rattle.theory_reaching.proofs.entries.IdleFates.{of_relay_transmission}
 use Rattle.theory_reaching.proofs.entries.KnownAfter.{keeps, barred_still, barred_by, by_tries, just_tried}
 
 -- A PEER
@@ -30,6 +28,13 @@ not_due n q early = by q.tries early where
   by [] e = let none : n < 0 = e in absurd (omega (arith, none))
   by (m ∷ ms) e = or_right (is_spent n q) (list_any (is_younger TRY_GAP_MS n) (filter (is_younger LISTED_MS n) (m ∷ ms)))
       (some_young m ms (young_enough n m e))
+
+-- nothing waits for one that may be tried
+pub none_kept : (n : ℕ) (q : Peer) → KeptBack n q → is_barred n q ≡ false → q.waiting ≡ []
+none_kept n q kept may = by q.waiting refl where
+  by : (ws : List (List ℕ)) → q.waiting ≡ ws → ws ≡ []
+  by [] e = refl
+  by (w ∷ ws) e = absurd (false≢true (sym may ∙ kept (ap (λ (us : List (List ℕ)). is_none us) e)))
 
 -- ONE MORE ENTRY
 
@@ -62,76 +67,22 @@ module _ (e : Mention) (j : List Mention) (n : ℕ) (p : Ip6) (at : e.moment ≡
     by (Some d) about barred false is = elsewhere (ap (is_peer p) about ∙ is)
     by (Some d) about barred true is = λ _. barred_still e j n p at unheard (ap (λ (z : Ip6). is_barred n (known j n z)) (same_ip6-true p d is) ∙ barred)
 
--- THE RELAY'S ENTRIES
+-- nothing waits for one of whom nothing is known
+pub nobody_waits : (n : ℕ) (p : Ip6) → KeptBack n (known [] n p)
+unfolding is_listed
+nobody_waits n p w = absurd (false≢true (sym (sym (ap (λ (q : Peer). is_none q.waiting) (unlisted_is_unknown [] n p refl)) ∙ w)))
 
--- what an entry means for what waits
-pub data Adds (j : List Entry) (n : ℕ) (e : Entry) : Type 0 where
-  mild : e.moment ≡ n → ((relay_mention e).bearing.queues ≡ None) ⊎ ((relay_mention e).bearing.tries ≡ true) → Adds j n e
-  back : e.moment ≡ n → (o : Option Ip6) → e.peer ≡ o → is_barred n (known (relay_mentions j) n (unwrap_or o unspecified)) ≡ true
-      → (relay_mention e).bearing.hears ≡ false → Adds j n e
+-- WHAT AN ENTRY MEANS FOR WHAT WAITS
 
-abbrev QueuesNone : Fate → Type 0
-QueuesNone f = (e : Entry) → (relay_bearing_of f e).queues ≡ None
+-- it queues nothing, or is a try; or it is about one that is barred, and isn't heard
+pub data Adds (j : List Mention) (n : ℕ) (e : Mention) : Type 0 where
+  mild : e.moment ≡ n → (e.bearing.queues ≡ None) ⊎ (e.bearing.tries ≡ true) → Adds j n e
+  back : e.moment ≡ n → (o : Option Ip6) → e.peer ≡ o → is_barred n (known j n (unwrap_or o unspecified)) ≡ true → e.bearing.hears ≡ false → Adds j n e
 
-of_reception : (a : RelaySeen) → QueuesNone (relay_reception_row a)
-of_reception a = first_of_each QueuesNone (reception_lines a) fate.Unserved
-    (λ e. refl, (λ e. refl, (λ e. refl, (λ e. refl, (λ e. refl, (λ e. refl, (λ e. refl, (λ e. refl, tt)))))))) (λ e. refl)
-
-abbrev IsQueued : Fate → Type 0
-IsQueued f = QueuesNone f ⊎ (f ≡ fate.Queued)
-
-of_transmission : (a : RelayGiven) → IsQueued (relay_transmission_row a)
-of_transmission a = of_relay_transmission IsQueued a (λ f idle. inl (λ e. ap (λ (b : Bearing). b.queues) (idle.bearing e)))
-    (λ _. inl (λ e. refl)) (λ _ _ _. inl (λ e. refl)) (λ _ _. inr refl)
+pub kept_by : (j : List Mention) (n : ℕ) (e : Mention) (p : Ip6) → Adds j n e → KeptBack n (known j n p) → KeptBack n (known (e ∷ j) n p)
+kept_by j n e p (mild at m) = kept_after e j n p at m
+kept_by j n e p (back at o about barred unheard) = kept_barred e j n p at o about barred unheard
 
 abbrev pub is_ticked : Input → Bool
 is_ticked ticked = true
 is_ticked _ = false
-
-module _ (s : RelaySettings) (j : List Entry) (n : ℕ) where
-  of_datagram : (from : Ep) (x : List ℕ) → Adds j n (relay_in s j n from x)
-  unfolding relay_in
-  of_datagram from x = mild refl (inl (
-      ap (λ (f : Fate). (relay_bearing_of f (relay_in s j n from x)).queues) (fate_of_reception s (relay_standing_of j n (source_in x)) from x)
-      ∙ of_reception (relay_seen s (relay_standing_of j n (source_in x)) from x) (relay_in s j n from x)))
-
-  module _ (x : List ℕ) where
-    abbrev a : RelayStanding
-    a = relay_standing_of j n (destination_in x)
-
-    abbrev it : Entry
-    it = relay_six s j n x
-
-    -- it waits, and the bubble was sent, or the relay is barred
-    waits : relay_transmission_row (relay_given s a x) ≡ fate.Queued → Adds j n it
-    unfolding relay_six relay_transmission relay_standing_at
-    waits queued = by (is_barred a.moment (relay_known_in a)) refl where
-      step_is : (relay_transmission s a x) ≡ relay_queues (is_barred a.moment (relay_known_in a)) s (fields_in x).dst
-      step_is = ap (relay_transmission_step s a x (fields_in x).dst) queued
-
-      by : (b : Bool) → is_barred a.moment (relay_known_in a) ≡ b → Adds j n it
-      by true barred = back refl (destination_in x) refl barred
-          (ap (λ (f : Fate). (relay_bearing_of f it).hears) (relay_fate_of_transmission s a x ∙ queued))
-      by false may = mild refl (inr (ap (λ (f : Fate). (relay_bearing_of f it).tries) (relay_fate_of_transmission s a x ∙ queued)
-          ∙ ap (λ (z : Step). (relay_bearing_of fate.Queued (record it { step = z })).tries) step_is
-          ∙ ap (λ (b : Bool). (relay_bearing_of fate.Queued (record it { step = relay_queues b s (fields_in x).dst })).tries) may))
-
-    of_packet : Adds j n it
-    unfolding relay_six
-    of_packet = by (of_transmission (relay_given s a x)) where
-      by : IsQueued (relay_transmission_row (relay_given s a x)) → Adds j n it
-      by (inr queued) = waits queued
-      by (inl none) = mild refl (inl (ap (λ (f : Fate). (relay_bearing_of f it).queues) (relay_fate_of_transmission s a x) ∙ none it))
-
-  -- any but that of a tick
-  pub each_adds : (input : Input) → is_ticked input ≡ false → Adds j n (relay_entry s j n input)
-  each_adds (arrived from x) e = of_datagram from x
-  each_adds (given x) e = mild refl (inl refl)
-  each_adds (from_six x) e = of_packet x
-  each_adds ticked e = absurd (false≢true (sym e))
-
-pub kept_by : (j : List Entry) (n : ℕ) (e : Entry) (p : Ip6) → Adds j n e → KeptBack n (known (relay_mentions j) n p)
-    → KeptBack n (known (relay_mentions (e ∷ j)) n p)
-unfolding relay_mentions
-kept_by j n e p (mild at m) = kept_after (relay_mention e) (relay_mentions j) n p at m
-kept_by j n e p (back at o about barred unheard) = kept_barred (relay_mention e) (relay_mentions j) n p at o about barred unheard

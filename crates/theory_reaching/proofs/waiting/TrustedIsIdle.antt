@@ -1,5 +1,7 @@
 -- Whom a relay trusts nothing waits for: it lets go what waits when it hears from a client, and keeps nothing for one that it trusts.
-use Rattle.theory_reaching.proofs.Words.{Bool, Entry, Fate, Input, Ip6, IsRelayJournal, LISTED_MS, List, Listing, Mention, None, Option, Peer, RelayGoesLater, RelayGoesToCone, RelaySeen, RelaySentOnlyIf, RelaySettings, Some, [], after, ap, arrived, cone_is_quiet, destination_in, due_by, false, false≢true, fate_of_reception, fields_in, first_of_each, from_six, has_cone, is_about, is_listed, is_packet, is_peer, is_some, is_spent, is_younger, known, no_peer, one_entry, option_map, peer_at, peer_if, peer_is, peer_is_if, reception_lines, refl, relay_bearing_of, relay_entry, relay_fate_of_transmission, relay_first_peer, relay_given, relay_in, relay_mention, relay_mentions, relay_reception_row, relay_seen, relay_six, relay_standing_at, relay_standing_of, relay_tick, relay_ticks, relay_transmission_is_warranted, relay_tries_peer, source_in, subst, sym, ticked, true, unspecified, unwrap_or, ℕ, ◌++◌, ◌∙◌, ◌∷◌, ◌≡◌}
+use Rattle.theory_reaching.proofs.Words.{Bool, Entry, Fate, Input, Ip6, IsRelayJournal, LISTED_MS, List, Listing, Mention, None, Option, Peer, RelayGoesLater, RelayGoesToCone, RelaySeen, RelaySentOnlyIf, RelaySettings, Some, [], ap, arrived, cone_is_quiet, destination_in, due_by, false, false≢true, fields_in, first_of_each, from_six, has_cone, is_about, is_listed, is_packet, is_peer, is_some, is_spent, is_younger, known, no_peer, one_entry, option_map, peer_at, peer_if, peer_is, peer_is_if, reception_lines, refl, relay_bearing_of, relay_entry, relay_fate_of_transmission, relay_first_peer, relay_given, relay_in, relay_mention, relay_mentions, relay_reception_row, relay_seen, relay_six, relay_standing_at, relay_standing_of, relay_tick, relay_ticks, relay_transmission_is_warranted, relay_tries_peer, source_in, subst, sym, ticked, true, unspecified, unwrap_or, ℕ, ◌++◌, ◌∙◌, ◌∷◌, ◌≡◌}
+use Rattle.relay_rules.proofs.LawProofs.{fate_of_reception}
+use Rattle.peer_list.specs.Laws.{after}
 use Rattle.teredo_node.specs.declared.fate.Fate.TheVariants as fate
 use Rattle.teredo_node.specs.Journal.{given}
 

@@ -1,60 +1,32 @@
--- Where an event is over, a relay is barred for each client for which packets wait at it: no tick is late.
-use Rattle.theory_reaching.proofs.Words.{Act, Bool, Delivers, DueNode, Entry, Ep, Event, Full, GoesOn, Grown, Hands, Input, Ip6, IsFirstBy, Item, Journal, Kind, Lab, List, Listing, Mention, Node, None, Option, Peer, Quiet, RelayNode, Some, Verb, [], advanced, and_right, ap, arith, arrived, asked_event, began, cond, dst_of, due_of, entry_of, false, false≢true, first_due, first_is_earliest, frame, from_six, handed, has_more, input_of, is_advance, is_listed, is_node, is_none, is_restart, is_some, journal, known, lasts, least_due, listed_is_known, nat_tests, new_journal, no_ep, no_peer, node_at, nodes, not, now, option_map, peer_at, put, reached, record_kinds, records_are_later, refl, relay, relay_due, relay_entry, relay_mentions, relay_settings, six, subst, sym, tick_due, ticked, ticks, true, udp, unlisted_is_unknown, unwrap_or, with_entries, with_entry, ℕ, ◌&&◌, ◌+◌, ◌<◌, ◌==◌, ◌∙◌, ◌∷◌, ◌≡◌, ◌≤◌}
+-- Where an event is over, a client or a relay is barred for each peer for which packets wait at it: no tick is late.
+use Rattle.theory_reaching.proofs.Words.{Act, Bool, DueNode, Entry, Ep, Event, Full, Grown, Input, Ip6, IsFirstBy, IsOver, Item, Journal, Kind, Lab, List, Listing, Mention, Node, None, Option, Peer, Quiet, Some, [], advanced, ap, arith, asked_event, began, cond, dst_of, due_of, entry_of, false, false≢true, first_due, first_is_earliest, frame, handed, has_more, input_of, is_advance, is_listed, is_node, is_none, is_restart, is_some, journal, known, lasts, least_due, listed_is_known, nat_tests, new_journal, no_ep, no_peer, node_at, nodes, not, now, peer_at, put, reached, record_kinds, records_are_later, refl, six, subst, sym, tick_due, ticks, true, udp, unlisted_is_unknown, unwrap_or, with_entries, with_entry, ℕ, ◌&&◌, ◌+◌, ◌<◌, ◌==◌, ◌∙◌, ◌∷◌, ◌≡◌, ◌≤◌}
 use Rattle.teredo_node.specs.Journal.{given}
-use Rattle.events.specs.declared.event.Event.TheVariants as event
 use Rattle.legal.specs.Kinds as kinds
 use Rattle.legal.specs.Kinds.{quiet, copied}
 use Rattle.history.specs.declared.act.Act.TheVariants as act
-use Rattle.theory_reaching.proofs.waiting.KeptBack.{KeptBack, not_due, is_ticked, each_adds, kept_by}
+use Rattle.theory_reaching.proofs.waiting.KeptBack.{KeptBack, nobody_waits, not_due, is_ticked}
 use Rattle.theory_reaching.proofs.waiting.LeastDue.{least_by}
+use Rattle.theory_reaching.proofs.waiting.OverEvents.{over_before, not_delivering, not_handing}
 
--- a relay's tick is due when its first peer is
-ticks_at : (j : List Entry) (n : ℕ) (l : Listing) → first_due (relay_mentions j) n ≡ Some l → relay_due j n ≡ Some (due_of l.peer)
-unfolding relay_due
-ticks_at j n l e = ap (option_map (λ (z : Listing). due_of z.peer)) e
+-- what a node's journal tells of a peer, a client's or a relay's: nothing where it has no entries; the next entry at the same moment, which is no tick's,
+-- keeps it back; and so does time, as long as no tick of the node is due
+pub record Keeper (lab : Lab) (k : ℕ) (a : Node) (p : Ip6) : Type 0 where
+  pub told : Journal → List Mention
+  pub nobody : (start : ℕ) → told (new_journal start) ≡ []
+  pub acts : (H : List Full) (dst : Ep) (input : Input) → is_ticked input ≡ false → KeptBack (now H) (known (told (journal k H)) (now H) p)
+      → KeptBack (now H) (known (told (with_entry (journal k H) (entry_of lab H (now H) k dst input a))) (now H) p)
+  pub due : (H : List Full) (l : Listing) → first_due (told (journal k H)) (now H) ≡ Some l
+      → (m : ℕ) × (tick_due lab H (now H) k a ≡ Some m) × (m ≤ due_of l.peer)
 
--- A HISTORY
-
--- the record isn't a tick of an advance that goes on
-abbrev is_over : Full → Bool
-is_over r = not (is_advance r.asked && has_more r.asked r.act)
-
--- the latest event is over
-abbrev pub IsOver : List Full → Type 0
-IsOver [] = Unit {0}
-IsOver (r ∷ H) = is_over r ≡ true
-
--- so it is where a record of another event follows than an advance
-pub over_before : (H : List Full) (asked : Event) → GoesOn H asked → is_advance asked ≡ false → IsOver H
-over_before [] asked goes other = tt
-over_before (r ∷ H) asked goes other = by (is_advance r.asked) (has_more r.asked r.act) refl refl where
-  by : (a b : Bool) → is_advance r.asked ≡ a → has_more r.asked r.act ≡ b → is_over r ≡ true
-  by a false ea eb = ap (λ (z : Bool). not (is_advance r.asked && z)) eb ∙ ap not (and_right (is_advance r.asked) false refl)
-  by false true ea eb = ap (λ (z : Bool). not (z && has_more r.asked r.act)) ea
-  by true true ea eb = absurd (false≢true (sym other ∙ ap is_advance (goes eb) ∙ ea))
-
-not_delivering : (H : List Full) (e : Event) (i : ℕ) → Delivers H e i → is_advance e ≡ false
-not_delivering H (event.Advance ms) i d = absurd d
-not_delivering H _ i d = refl
-
-pub not_handing : (lab : Lab) (H : List Full) (e : Event) (v : Verb) (n : ℕ) (x : List ℕ) → Hands lab H e v n x → is_advance e ≡ false
-not_handing lab H (event.Advance ms) v n x d = absurd d
-not_handing lab H _ v n x d = refl
-
-module _ (lab : Lab) (k : ℕ) (r : RelayNode) (there : node_at lab.topology k ≡ Some (relay r)) (p : Ip6) where
+module _ (lab : Lab) (k : ℕ) (a : Node) (there : node_at lab.topology k ≡ Some a) (p : Ip6) (keeper : Keeper lab k a p) where
   abbrev KeptIn : Journal → ℕ → Type 0
-  KeptIn u t = KeptBack t (known (relay_mentions u.entries) t p)
+  KeptIn u t = KeptBack t (known (keeper.told u) t p)
 
   abbrev pub Kept : List Full → Type 0
   Kept H = KeptIn (journal k H) (now H)
 
-  nobody_listed : (n : ℕ) → is_listed p n [] ≡ false
-  unfolding is_listed
-  nobody_listed n = refl
-
   of_nobody : (n start : ℕ) → KeptIn (new_journal start) n
-  unfolding relay_mentions
-  of_nobody n start w = absurd (false≢true (sym (sym (ap (λ (q : Peer). is_none q.waiting) (unlisted_is_unknown [] n p (nobody_listed n))) ∙ w)))
+  of_nobody n start = subst (λ (ms : List Mention). KeptBack n (known ms n p)) (sym (keeper.nobody start)) (nobody_waits n p)
 
   -- where the first peer isn't due yet
   none_late : (j : List Mention) (m n : ℕ) → m ≤ n → ((l : Listing) → first_due j m ≡ Some l → n < due_of l.peer) → KeptBack n (known j n p)
@@ -97,52 +69,43 @@ module _ (lab : Lab) (k : ℕ) (r : RelayNode) (there : node_at lab.topology k �
     without_entry none moment before = with_journal moment
         (subst (λ (o : Option Entry). KeptIn (with_entries (journal k H) o) (now H)) (sym none) before) before
 
-    its_entry : (dst : Ep) (input : Input) → relay_entry (relay_settings lab.topology k r) (journal k H).entries (now H) input
-        ≡ entry_of lab H (now H) k dst input (relay r)
-    its_entry dst (arrived from x) = refl
-    its_entry dst (given x) = refl
-    its_entry dst (from_six x) = refl
-    its_entry dst ticked = refl
-
-    -- node i, which is a, acted on this, which is no tick
+    -- node i, which is b, acted on this, which is no tick
     record Acts : Type 0 where
       i : ℕ
-      a : Node
+      b : Node
       dst : Ep
       input : Input
       no_tick : is_ticked input ≡ false
-      at : node_at lab.topology i ≡ Some a
+      at : node_at lab.topology i ≡ Some b
       node : q.node ≡ Some i
-      did : q.entry ≡ Some (entry_of lab H (now H) i dst input a)
+      did : q.entry ≡ Some (entry_of lab H (now H) i dst input b)
       moment : q.moment ≡ now H
 
     module _ (acts : Acts) where
-      open acts use {i, a, dst, input, no_tick, at, node, did, moment}
+      open acts use {i, b, dst, input, no_tick, at, node, did, moment}
 
       acted : Kept H → Kept (q ∷ H)
       acted before = by (is_node k q.node) refl where
-        mine : k ≡ i → KeptIn (with_entry (journal k H) (entry_of lab H (now H) i dst input a)) (now H)
+        mine : k ≡ i → KeptIn (with_entry (journal k H) (entry_of lab H (now H) i dst input b)) (now H)
         mine same =
-            let one : a ≡ relay r = ap (λ (o : Option Node). unwrap_or o a) (sym at ∙ ap (node_at lab.topology) (sym same) ∙ there) in
+            let one : b ≡ a = ap (λ (o : Option Node). unwrap_or o b) (sym at ∙ ap (node_at lab.topology) (sym same) ∙ there) in
             subst (λ (z : Node). KeptIn (with_entry (journal k H) (entry_of lab H (now H) i dst input z)) (now H)) (sym one)
-            (subst (λ (u : ℕ). KeptIn (with_entry (journal k H) (entry_of lab H (now H) u dst input (relay r))) (now H)) same
-            (subst (λ (e : Entry). KeptIn (with_entry (journal k H) e) (now H)) (its_entry dst input)
-            (kept_by (journal k H).entries (now H) (relay_entry (relay_settings lab.topology k r) (journal k H).entries (now H) input) p
-            (each_adds (relay_settings lab.topology k r) (journal k H).entries (now H) input no_tick) before)))
+            (subst (λ (u : ℕ). KeptIn (with_entry (journal k H) (entry_of lab H (now H) u dst input a)) (now H)) same
+            (keeper.acts H dst input no_tick before))
 
-        by : (b : Bool) → is_node k q.node ≡ b → Kept (q ∷ H)
+        by : (c : Bool) → is_node k q.node ≡ c → Kept (q ∷ H)
         by true is =
             let same : k ≡ i = (let e : (k == i) ≡ true = ap (is_node k) (sym node) ∙ is in grind (arith, nat_tests, e)) in
             with_journal moment (subst (λ (o : Option Entry). KeptIn (with_entries (journal k H) o) (now H)) (sym did) (mine same)) before
         by false is = subst (λ (u : Journal). KeptIn u q.moment)
-            (sym (ap (λ (b : Bool). cond b (cond (is_restart q.act) (new_journal q.moment) (with_entries (journal k H) q.entry)) (journal k H)) is))
+            (sym (ap (λ (c : Bool). cond c (cond (is_restart q.act) (new_journal q.moment) (with_entries (journal k H) q.entry)) (journal k H)) is))
             (subst (KeptIn (journal k H)) (sym moment) before)
 
     -- time passed, and no tick was due
     passed_by : (ms : ℕ) → Grown lab (q ∷ H) → ((x : DueNode) → least_due lab H 0 (nodes lab.topology) ≡ Some x → began H + ms < x.moment)
         → q ≡ advanced H (asked_event q) (began H + ms) → Kept (q ∷ H)
     passed_by ms g before is = subst (λ (u : Journal). KeptIn u q.moment) (sym same_journal)
-        (none_late (relay_mentions (journal k H).entries) (now H) q.moment (records_are_later lab H q g) due) where
+        (none_late (keeper.told (journal k H)) (now H) q.moment (records_are_later lab H q g) due) where
           node : q.node ≡ None
           node = ap (λ (z : Full). z.node) is
 
@@ -152,14 +115,15 @@ module _ (lab : Lab) (k : ℕ) (r : RelayNode) (there : node_at lab.topology k �
           moment : q.moment ≡ began H + ms
           moment = ap (λ (z : Full). z.moment) is
 
-          due : (l : Listing) → first_due (relay_mentions (journal k H).entries) (now H) ≡ Some l → q.moment < due_of l.peer
+          due : (l : Listing) → first_due (keeper.told (journal k H)) (now H) ≡ Some l → q.moment < due_of l.peer
           due l e =
               let same : 0 + k ≡ k = omega arith in
-              let least = least_by lab H (nodes lab.topology) 0 k (relay r) (due_of l.peer) there
-              (ap (λ (u : ℕ). tick_due lab H (now H) u (relay r)) same ∙ ticks_at (journal k H).entries (now H) l e) in
+              let its = keeper.due H l e in
+              let least = least_by lab H (nodes lab.topology) 0 k a its.0 there (ap (λ (u : ℕ). tick_due lab H (now H) u a) same ∙ its.1) in
               let after_end : began H + ms < least.first.moment = before least.first least.is in
-              let within : least.first.moment ≤ due_of l.peer = least.by in
-              omega (arith, after_end, within, moment)
+              let within : least.first.moment ≤ its.0 = least.by in
+              let sooner : its.0 ≤ due_of l.peer = its.2 in
+              omega (arith, after_end, within, sooner, moment)
 
   -- where the latest event is over
   pub kept_back : (H : List Full) → Grown lab H → IsOver H → Kept H
@@ -195,9 +159,9 @@ module _ (lab : Lab) (k : ℕ) (r : RelayNode) (there : node_at lab.topology k �
     by ih (ticks ms x asked due within is) = absurd (false≢true (
         ap (λ (e : Event). not (is_advance e && has_more e act.Tick)) (sym asked)
         ∙ ap (λ (a : Act). not (is_advance q.asked && has_more q.asked a)) (sym (ap (λ (z : Full). z.act) is)) ∙ over))
-    by ih (handed v i x a hands at is) = acted H q (record {
+    by ih (handed v i x b hands at is) = acted H q (record {
       i = i;
-      a = a;
+      b = b;
       dst = no_ep;
       input = given x;
       no_tick = refl;
@@ -206,9 +170,9 @@ module _ (lab : Lab) (k : ℕ) (r : RelayNode) (there : node_at lab.topology k �
       did = ap (λ (z : Full). z.entry) is;
       moment = ap (λ (z : Full). z.moment) is;
     }) (before ih (not_handing lab H q.asked v i x hands))
-    by ih (reached number i x a delivers at goes to is) = acted H q (record {
+    by ih (reached number i x b delivers at goes to is) = acted H q (record {
       i = i;
-      a = a;
+      b = b;
       dst = dst_of x;
       input = input_of x;
       no_tick = item_no_tick x;

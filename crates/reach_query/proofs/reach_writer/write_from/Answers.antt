@@ -1,6 +1,6 @@
 use Rattle.reach_query.proofs.Words.{List, ap, arith, err_from_is_err_and, lab_in, length, nodes, range_with_len, said_from, sym, ℕ, ◌<◌, ◌∙◌, ◌≤◌}
 use Rattle.reach_query.proofs.PairNumbers.{range_whole, range_end, within_more}
-use Rattle.reach_query.proofs.PairsWritten.{none_said, nobody_said, none_yet, pairs_on, some_more, broken_off, all_said}
+use Rattle.reach_query.proofs.PairsWritten.{SomeMore, none_said, nobody_said, none_yet, pairs_on, some_more, broken_off, all_said}
 use Rattle.reach_query.proofs.reach_writer.write_from.Goals as goal
 
 pub returns-then-not-is_host-clause-said : goal.returns-then-not-is_host-clause-said
@@ -22,8 +22,16 @@ others-init g c = record {
 pub others-preserved : goal.others-preserved
 others-preserved g c =
     let inside : c.others.to < length (nodes c.args.topology.now) = omega (arith, c.others-test.true, c.node_count-end.ensures.count) in
+    let the : SomeMore = record {
+      before = g.K.Sink.state c.args.out.now;
+      after = g.K.Sink.state c.others.out;
+      end = g.K.Sink.state c.write_pair.new.out;
+      old = c.args.counts.now;
+      mid = c.others.counts;
+      new = c.write_pair.new.counts;
+    } in
     record {
-      said = λ d H stands. some_more _ _ _ _ _ _ _ _ _ _ _ (c.others.invariant.said d H stands)
+      said = λ d H stands. some_more the _ _ _ _ _ (c.others.invariant.said d H stands)
           (pairs_on (lab_in d c.args.world.now) H c.args.from c.others.to (length (nodes c.args.topology.now)) inside)
           (c.in_ok-write_pair.ensures.said d H stands);
       within = omega (arith, c.others-test.true, c.node_count-end.ensures.most);
@@ -34,7 +42,15 @@ pub returns-in_err-write_pair-clause-said : goal.returns-in_err-write_pair-claus
 returns-in_err-write_pair-clause-said g c =
     let inside : c.others.to < length (nodes c.args.topology.now) = omega (arith, c.others-test.true, c.node_count-end.ensures.count) in
     let p = err_from_is_err_and c.from_residual.result c.from_residual.ensures.1 in
-    λ d H stands. rw p.1 (broken_off _ _ _ _ _ _ _ _ _ _ _ (c.others.invariant.said d H stands)
+    let the : SomeMore = record {
+      before = g.K.Sink.state c.args.out.now;
+      after = g.K.Sink.state c.others.out;
+      end = g.K.Sink.state c.write_pair.new.out;
+      old = c.args.counts.now;
+      mid = c.others.counts;
+      new = c.write_pair.new.counts;
+    } in
+    λ d H stands. rw p.1 (broken_off the _ _ _ _ _ (c.others.invariant.said d H stands)
     (pairs_on (lab_in d c.args.world.now) H c.args.from c.others.to (length (nodes c.args.topology.now)) inside) _ p.0
     (c.in_err-write_pair.ensures.said d H stands))
 

@@ -1,4 +1,4 @@
-use Rattle.reach_query.proofs.Words.{AreAlike, Bool, Ep, Peer, Relayed, ap, clients_of, embedded, has_cone, has_room_for_both, holds_most, is_barred, is_fresh, is_led_to, is_some, is_trusted_at, journal, keeps_packets, known, lab_in, not, peers_of, relayed, subst, sym, ◌&&◌, ◌||◌, ◌∙◌}
+use Rattle.reach_query.proofs.Words.{AreAlike, Bool, Ep, Peer, Relayed, TopologyState, ap, clients_of, embedded, has_cone, has_room_for_both, holds_most, is_barred, is_fresh, is_led_to, is_some, is_trusted_at, journal, keeps_packets, known, lab_in, not, peers_of, primary_of, relayed, server_at, server_ep, speaks_to, subst, sym, ◌&&◌, ◌||◌, ◌∙◌}
 use Rattle.reach_query.proofs.AskedOfRelays.{found_is_known, asked_through_now, looked_at, looked_at_is_alike}
 use Rattle.reach_query.proofs.through_relay.relayed.Goals as goal
 
@@ -16,6 +16,9 @@ returns c = λ d H s client relay.
     let serves = relay.kept.stands in
     let on = c.is_on-on.ensures lab H client in
     let settled = c.is_settled-settled.ensures d H s client in
+    let speaks = c.speaks_to-speaks.ensures d H s client in
+    let speaks_server = c.speaks_to-speaks_server.ensures d H s client
+    ∙ ap (λ (e : Ep). speaks_to lab H a.row own e) (c.server_endpoint.ensures ∙ ap (λ (t : TopologyState). server_ep (primary_of (server_at t a.row.server))) c.topology.ensures) in
     let host_known = c.peer-host_known.ensures.known j knows in
     let client_known = c.peer-client_known.ensures.known k serves in
     let fresh = c.is_fresh-fresh.ensures ∙ ap (is_fresh m) host_known in
@@ -32,12 +35,13 @@ returns c = λ d H s client relay.
     let room_for_both = c.has_room_for_both-room_for_both.ensures j knows
     ∙ ap (λ (b : Bool). not b || has_room_for_both (peers_of H a.number) m h.six r.six) asks in
     let holds_most = c.holds_most-holds_most.ensures ∙ ap holds_most host_known in
-    let keeps = c.keeps_packets-keeps.ensures ∙ ap keeps_packets host_known in
     let relay_keeps = c.keeps_packets-relay_keeps.ensures ∙ ap keeps_packets client_known in
     let asked = relayed lab H a.number a.row h r in
     let seen = (λ i. record {
       on = on i;
       settled = settled i;
+      speaks = speaks i;
+      speaks_server = speaks_server i;
       fresh = fresh i;
       trusted = trusted i;
       listed = listed i;
@@ -49,8 +53,7 @@ returns c = λ d H s client relay.
       room = room i;
       room_for_both = room_for_both i;
       holds_most = holds_most i;
-      keeps = keeps i;
       relay_keeps = relay_keeps i;
     })
-    ∙ ap looked_at (asked_through_now lab H a h r m own (c.moment-now.ensures ∙ s.moment) (c.address-own.ensures lab H client)) in
+    ∙ ap looked_at (asked_through_now lab H a h r m own (c.moment-now.ensures.value ∙ s.moment) (c.address-own.ensures lab H client)) in
     subst (λ (a : Relayed). AreAlike a asked) (sym seen) (looked_at_is_alike asked)

@@ -1,4 +1,4 @@
-use Rattle.reach_query.proofs.Words.{AreAlikeOfTwo, Bool, Ep, TwoClients, ap, embedded, has_cone, is_barred, is_fresh, is_led_to, journal, keeps_packets, known_in, lab_in, mentions, not, subst, sym, two_clients, ◌&&◌, ◌==◌, ◌||◌, ◌∙◌}
+use Rattle.reach_query.proofs.Words.{AreAlikeOfTwo, Bool, Ep, Peer, TwoClients, ap, embedded, has_cone, is_barred, is_fresh, is_led_to, journal, known_in, lab_in, length, mentions, not, speaks_to, subst, sym, two_clients, ◌&&◌, ◌==◌, ◌||◌, ◌∙◌}
 use Rattle.reach_query.proofs.Shown.{outermost_shown}
 use Rattle.reach_query.proofs.AskedOfClients.{asked_now, looked_at, shut_where_barred, looked_at_is_alike}
 use Rattle.reach_query.proofs.two_clients.two_clients.Goals as goal
@@ -17,6 +17,8 @@ returns c = λ d H s sender receiver.
     let k = journal b.number H in
     let on = c.is_on-on.ensures lab H sender in
     let there = c.is_on-there.ensures lab H receiver in
+    let same_address = c.eq-same_address.ensures in
+    let speaks = c.speaks_to-speaks.ensures d H s sender ∙ ap (λ (e : Ep). speaks_to lab H a.row own e) c.embedded.ensures in
     let settled = c.are_settled-settled.ensures d H s sender receiver in
     let outer = outermost_shown d w c.nats-nats.result.now.chain a.row c.outermost-outer.result nats.chain c.outermost-outer.ensures in
     let other_outer = outermost_shown d w c.nats-nats.result.now.chain b.row c.outermost-other_outer.result nats.chain c.outermost-other_outer.ensures in
@@ -25,18 +27,18 @@ returns c = λ d H s sender receiver.
     let heard = c.has_room-heard.ensures k receiver.kept.stands in
     let fresh = c.is_fresh-fresh.ensures ∙ ap (is_fresh m) there_known in
     let led = is_led_to lab H (embedded own) (embedded other) b.number in
-    let let_in = c.is_let_in-let_in.ensures d H s ∙ ap (λ (e : Ep). c.is_fresh-fresh.result && is_led_to lab H e c.embedded-2.result b.number) c.embedded.ensures
-    ∙ ap (λ (e : Ep). c.is_fresh-fresh.result && is_led_to lab H (embedded own) e b.number) c.embedded-2.ensures
+    let let_in = c.is_let_in-let_in.ensures d H s ∙ ap (λ (e : Ep). c.is_fresh-fresh.result && is_led_to lab H e c.embedded-3.result b.number) c.embedded-2.ensures
+    ∙ ap (λ (e : Ep). c.is_fresh-fresh.result && is_led_to lab H (embedded own) e b.number) c.embedded-3.ensures
     ∙ ap (λ (b : Bool). b && led) fresh in
     let to_cone = c.has_cone-to_cone.ensures in
     let from_cone = c.has_cone-from_cone.ensures in
     let barred = c.is_barred-barred.ensures ∙ ap (is_barred m) there_known in
     let room = c.has_room-room.ensures j sender.kept.stands in
-    let known = c.are_known-known.ensures ∙ (λ i. keeps_packets (there_known i) || (keeps_packets (back_known i) || is_barred m (back_known i))) in
+    let waiting = c.waiting-waiting.ensures ∙ ap (λ (p : Peer). length p.waiting) back_known in
     let barred_back = c.is_barred-barred_back.ensures ∙ ap (is_barred m) back_known in
     let let_in_back = c.is_let_in-let_in_back.ensures d H s
-    ∙ ap (λ (e : Ep). c.is_barred-barred_back.result && is_led_to lab H e c.embedded-4.result b.number) c.embedded-3.ensures
-    ∙ ap (λ (e : Ep). c.is_barred-barred_back.result && is_led_to lab H (embedded own) e b.number) c.embedded-4.ensures
+    ∙ ap (λ (e : Ep). c.is_barred-barred_back.result && is_led_to lab H e c.embedded-5.result b.number) c.embedded-4.ensures
+    ∙ ap (λ (e : Ep). c.is_barred-barred_back.result && is_led_to lab H (embedded own) e b.number) c.embedded-5.ensures
     ∙ ap (λ (b : Bool). b && led) barred_back in
     let barred_there = c.is_barred_there-barred_there.ensures ∙ (λ i. barred_back i && (from_cone i || not (let_in_back i)))
     ∙ shut_where_barred (is_barred m (known_in (mentions k.entries) m own)) (has_cone own) led in
@@ -44,6 +46,8 @@ returns c = λ d H s sender receiver.
     let seen = (λ i. record {
       on = on i;
       there = there i;
+      same_address = same_address i;
+      speaks = speaks i;
       settled = settled i;
       one_nat = outer i == other_outer i;
       heard = heard i;
@@ -53,8 +57,9 @@ returns c = λ d H s sender receiver.
       barred = barred i;
       room = room i;
       barred_there = barred_there i;
-      known = known i;
+      waiting = waiting i;
+      peer_barred = barred_back i;
       from_cone = from_cone i;
     })
-    ∙ ap looked_at (asked_now lab H a b m own other (c.moment-now.ensures ∙ s.moment) (c.address-own.ensures lab H sender) (c.address-other.ensures lab H receiver)) in
+    ∙ ap looked_at (asked_now lab H a b m own other (c.moment-now.ensures.value ∙ s.moment) (c.address-own.ensures lab H sender) (c.address-other.ensures lab H receiver)) in
     subst (λ (a : TwoClients). AreAlikeOfTwo a asked) (sym seen) (looked_at_is_alike asked)
