@@ -19,12 +19,12 @@ import tempfile
 
 TOP = os.path.dirname(os.path.dirname(os.path.abspath(__file__)))
 PROGRAM = os.path.join(TOP, 'crates', 'teredo_cli', 'out', 'teredo_cli')
-TOOLS = {'trace': 'trace', 'flow': 'flow', 'lint': 'lint', 'check': 'check', 'generated': 'generated', 'json': 'json_lines', 'csv': 'csv_table',
+TOOLS = {'trace': 'trace', 'follow': 'follow', 'state': 'state', 'flow': 'flow', 'lint': 'lint', 'check': 'check', 'generated': 'generated', 'json': 'json_lines', 'csv': 'csv_table',
          'explore': 'explore', 'sweep': 'sweep', 'meet': 'meet'}
 ALONE = ('meet',)  # asks no program
 COMMAND = re.compile(rf'^\$ \./teredo (lab examples/|nested examples/|reach examples/|wire examples/|show |gen |(?:{"|".join(TOOLS)}) )')
 # How many commands each page quotes at least: a check of nothing passes.
-BLOCKS_MIN = {'README.md': 2, 'docs/GUIDE.md': 11, 'docs/SURE.md': 2, 'docs/CAPTURES.md': 2, 'docs/COMMANDS.md': 4,
+BLOCKS_MIN = {'README.md': 2, 'docs/GUIDE.md': 11, 'docs/SURE.md': 2, 'docs/CAPTURES.md': 2, 'docs/COMMANDS.md': 6,
               'docs/TOOLS.md': 4, 'docs/START.md': 3, 'docs/REACH.md': 3}
 # The status of what ends so; 0 of all else.
 STATUSES = {'fault ': 1, 'words': 2, 'scenario ': 3, 'wire full': 8, 'unlicensed ': 10, 'capture ': 11, 'nested': 12, 'reach: ': 12}

@@ -1,34 +1,42 @@
-"""Why a packet was lost or waits: a sentence for each way, from what the report says happened before."""
+"""Why a packet was dropped, waits or is held: a sentence for each way, made of what `state` says that the nodes keep at that record.
+
+Of a report alone, and where nothing answers `state`, it is what docs/SCENARIOS.md says of the fate.
+"""
 from __future__ import annotations
 
-from typing import TYPE_CHECKING
-
 import fates
-import tried
-from peer_times import FRESH_MS, LISTED_MS, TRY_GAP_MS
-from report import SOLICITATIONS, Entry, Loss, Mark, Record, Report, teredo_parts
+from followed import Load
+from kept import TRY_GAP_MS, Client, Kept, Lets, Peer, Port, Void
+from report import SOLICITATIONS, Entry, Loss, Mark, Record, teredo_parts
+from told import Told
 
-if TYPE_CHECKING:  # which itself asks this module for reasons
-    from travel import Hold, Travels, Waiting
-
-TESTS = ('held_test', 'suspicious_test')
-HEARD = ('rule1', 'rule1_bubble', 'rule2', 'rule3', 'rule3_bubble')
-
-
-def when(record: Record) -> str:
-    return f'at {record.moment:,} ms'
+NAMED_MAX = 3  # whom a NAT lets in, that are named
+DEPTH_MAX = 3  # sentences within sentences
+PHASES = {'cone': 'it asks still, whether its NAT is a cone', 'restricted': 'it asks still, from one address of its server',
+          'secondary': 'it asks still, at the second address of its server', 'offline': 'it gave up', 'symmetric': 'a NAT on its way is symmetric'}
 
 
-def of_drop(travels: Travels, record: Record) -> str:
-    """Why the node of a record dropped what it was given."""
-    ways = {'nat_closed': of_closed_nat, 'off': of_off, 'dest': of_destination, 'barred': of_barred, 'mismatch': of_mismatch,
-            'unlisted': of_unlisted, 'not_mine': of_old_address, 'nowhere': of_nowhere, 'suspicious_test': of_suspicious,
-            'source': of_source}
-    way = ways.get(record.fate)
-    if way:
-        return way(travels, record)
+def ms(moment: int) -> str:
+    return f'{moment:,} ms'
+
+
+def at(record: Record) -> str:
+    return f'at {ms(record.moment)}'
+
+
+def meaning(record: Record) -> str:
+    """What docs/SCENARIOS.md says of a fate."""
     fate = fates.FATES[record.fate]
     return fate.means + (f' (likely: {fate.cause})' if fate.cause else '')
+
+
+def of_drop(told: Told, record: Record, depth: int = 0) -> str:
+    """Why the node of a record dropped what it was given."""
+    ways = {'nat_closed': of_closed_nat, 'off': of_off, 'dest': of_destination, 'barred': of_barred, 'mismatch': of_mismatch,
+            'unlisted': of_unlisted, 'not_mine': of_old_address, 'suspicious_test': of_suspicious, 'suspicious': of_suspicious,
+            'nowhere': of_nowhere, 'source': of_source}
+    way = ways.get(record.fate)
+    return (way(told, told.kept, record, depth) if way and told.kept and depth < DEPTH_MAX else '') or meaning(record)
 
 
 def of_loss(loss: Loss) -> str:
@@ -41,262 +49,370 @@ def of_loss(loss: Loss) -> str:
     return f'!{loss.word}: nothing went out to {loss.target}'
 
 
-def of_undelivered(travels: Travels, entry: Entry) -> str:
-    when_not = 'wasn\'t delivered yet' if travels.report.delivered(entry) else 'was never delivered'
-    return f'#{entry.number}, the {travels.report.content(entry)} {entry.way}, {when_not}'
+def of_undelivered(told: Told, entry: Entry) -> str:
+    when_not = 'wasn\'t delivered yet' if told.report.delivered(entry) else 'was never delivered'
+    return f'#{entry.number}, the {told.report.content(entry)} {entry.way}, {when_not}'
 
 
 # NATs
 
 
-def cut_of(report: Report, nat: str, until: Record) -> Record | None:
-    """The latest restart of a NAT before a record, or `forget` that may be of this client."""
-    cuts = [record for record in report.of_node(nat, until) if record.act in ('restart', 'forget')]
-    return cuts[-1] if cuts else None
+def port_at(told: Told, kept: Kept, nat: str, entry: Entry, count: int) -> int | None:
+    """The port of a NAT that an entry has come to: its own, or of an inner NAT that toward which the one outside turns it."""
+    outer = next((name for name in told.known.of('nat') if told.known.tables[name]['external'] == entry.target.rpartition(':')[0]), None)
+    number = int(entry.target.rpartition(':')[2])
+    while outer is not None and outer != nat:
+        port, _ = kept.last_port(outer, number, count)
+        if port is None:
+            return None
+        address, _, inner = port.inside.rpartition(':')
+        outer = next((name for name, beyond in told.known.outer.items() if beyond == outer and told.known.tables[name]['external'] == address), None)
+        number = int(inner)
+    return number if outer else None
 
 
-def is_cone(report: Report, client: str, until: Record) -> bool:
-    address = report.address_at(client, until)
-    return address is not None and teredo_parts(address).is_cone
+def whose(told: Told, nat: str, inside: str) -> str:
+    """Who is at an endpoint inside of a NAT: a client, or another NAT."""
+    clients = (name for name in told.known.of('client') if (told.known.tables[name].get('nat'), told.known.tables[name].get('inside')) == (nat, inside))
+    inner = (name for name, outer in told.known.outer.items() if outer == nat and told.known.tables[name]['external'] == inside.rpartition(':')[0])
+    return next(iter([*clients, *inner, inside]))
 
 
-def of_closed_nat(travels: Travels, record: Record) -> str:
-    report = travels.report
-    entry, nat = report.came_by(record), record.node
-    sent = report.sent_from(entry.target, record)
-    if not sent:
-        return f'nobody behind {nat} ever sent from {entry.target}'
-    latest = sent[-1].maker
-    cut = cut_of(report, nat, record)
-    if cut and cut.index > latest.index:
-        verb = 'restarted' if cut.act == 'restart' else 'was told to forget a client'
-        return f'{nat} {verb} {when(cut)}, and nothing was sent from {entry.target} since'
-    silence, says_cone = record.moment - latest.moment, is_cone(report, latest.node, record)
-    if says_cone and silence:
-        return f'{latest.node} sent nothing from {entry.target} for {silence:,} ms: its mapping is gone (idle below refresh)'
-    to_source = [mark for mark in sent if mark.target == entry.source]
-    if not to_source:
-        failed = failed_send(report, latest.node, entry.source, record)
-        if failed:
-            return f'{nat} lets in whom {latest.node} sent to, and its send to {entry.source} {when(failed)} failed'
-        told = as_meant(report, entry) or other_port(report, entry, record)
-        told += f'; the address of {latest.node} says cone, and {nat} isn\'t' if says_cone else ''
-        return f'{nat} lets in whom {latest.node} sent to, and it never sent to {entry.source}' + told
-    silence = record.moment - to_source[-1].maker.moment
-    if cut and cut.index > to_source[-1].maker.index:
-        return f'{nat} restarted {when(cut)}, and {latest.node} sent nothing to {entry.source} since'
-    return f'{latest.node} sent nothing to {entry.source} for {silence:,} ms: {nat} has forgotten it (idle)'
+def of_closed_nat(told: Told, kept: Kept, record: Record, depth: int) -> str:
+    entry, nat, count, now = told.report.came_by(record), record.node, told.first_count(record), record.moment
+    number = port_at(told, kept, nat, entry, count)
+    if number is None:
+        return ''
+    port = kept.port(nat, number, count, now)
+    if port is None:
+        return of_dead_port(told, kept, record, number, count)
+    client = whose(told, nat, port.inside)
+    if port.toward:
+        return f'port {number} of {nat} is {client}\'s toward {port.toward} alone, and this is from {entry.source}'
+    said = let_in_before(kept, port, nat, count, entry.source) + f'port {number} of {nat}, {client}\'s, lets in {whom(kept.lets(nat, number, count, now))}, ' \
+        f'and this is from {entry.source}'
+    return said + failed(told, record, client, entry.source) + as_meant(told, entry) + other_port(told, kept, entry, record) + takes_for_cone(told, kept, record, port, nat)
 
 
-def failed_send(report: Report, client: str, target: str, until: Record) -> Record | None:
-    """The latest record in which `fault` kept a client from sending to an endpoint, or None."""
-    found = [record for record in report.of_node(client, until)
-             if any(loss.word == 'fault' and loss.target == target for loss in record.losses)]
-    return found[-1] if found else None
+def whom(lets: list[Lets]) -> str:
+    """Whom a port lets in, and until when: those that may longest."""
+    told = [f'{one.source} until {ms(one.until)}' for one in sorted(lets, key=lambda one: -one.until)]
+    more = [f'{len(told) - NAMED_MAX} more'] if len(told) > NAMED_MAX else []
+    return ' and '.join(told[:NAMED_MAX] + more) or 'nobody'
 
 
-def as_meant(report: Report, entry: Entry) -> str:
-    content = report.content(entry)
-    if content == 'advertisement':
+def let_in_before(kept: Kept, port: Port, nat: str, count: int, source: str) -> str:
+    """That somebody was let in once."""
+    names = (source, source.rpartition(':')[0])
+    ended = [one for one in kept.said_of_lets(nat, port.number, count) if one.source in names]
+    return f'{nat} let {ended[-1].source} in until {ms(ended[-1].until)}: ' if ended else ''
+
+
+def of_dead_port(told: Told, kept: Kept, record: Record, number: int, count: int) -> str:
+    """What became of a port that isn't live."""
+    nat = record.node
+    port, _ = kept.last_port(nat, number, count)
+    if port is not None:
+        return f'{nat} kept port {number} for {whose(told, nat, port.inside)} until {ms(port.until)}, and nothing renewed it'
+    places = [place for place in kept.nodes[nat].ports.get(number, []) if place < count] if nat in kept.nodes else []
+    if not places:
+        return f'{nat} never had a port {number}: nobody sent by it'
+    void = next((line for line in kept.lines[places[-1]:count] if line.node == nat and isinstance(line.what, Void)), None)
+    if void is None:
+        return ''
+    happened = 'was restarted' if void.what == Void() else 'was told to forget whose it was'
+    return f'{nat} has no port {number}: it {happened} at {ms(void.moment)}, and nothing went out by it since'
+
+
+def failed(told: Told, until: Record, client: str, target: str) -> str:
+    """That a send which would have opened the NAT failed."""
+    found = [record for record in told.report.of_node(client, until) if any(loss.word == 'fault' and loss.target == target for loss in record.losses)]
+    return f'; a send of {client} there failed {at(found[-1])}' if found else ''
+
+
+def as_meant(told: Told, entry: Entry) -> str:
+    content = told.report.content(entry)
+    if content == 'advertisement' and told.known.is_secondary(entry.source):
         return ' (as meant: this is the test for a cone NAT)'
-    if content == 'bubble' and entry.maker.fate in ('queued', 'bubbles'):
-        return ' (as meant: a direct bubble opens the NAT of its sender)'
-    return ''
+    return ' (as meant: a direct bubble opens the NAT of its sender)' if content == 'bubble' and entry.number not in carried(told) else ''
 
 
-def other_port(report: Report, entry: Entry, until: Record) -> str:
+def carried(told: Told) -> dict[int, Load]:
+    return told.followed.carried if told.followed else {}
+
+
+def other_port(told: Told, kept: Kept, entry: Entry, record: Record) -> str:
     """That the sender's address says another endpoint than it is seen at."""
-    address = report.address_at(entry.maker.node, until) if entry.maker.fate != 'put' else None
+    maker = entry.maker
+    address = kept.address(maker.node, told.first_count(maker)) if maker.fate != 'put' else None
     if address is None or teredo_parts(address).endpoint == entry.source:
         return ''
-    return f'; the address of {entry.maker.node} says {teredo_parts(address).endpoint}: its NAT has another port for it'
+    return f'; the address of {maker.node} says {teredo_parts(address).endpoint}: its NAT has another port for it'
+
+
+def takes_for_cone(told: Told, kept: Kept, record: Record, port: Port, nat: str) -> str:
+    """That the client behind a port is taken for one behind a cone."""
+    inside = whose(told, nat, port.inside)
+    clients = [name for name in told.known.of('client') if name == inside or inside in told.known.way_out(name)]
+    cones = [name for name in clients for address in [kept.address(name, told.first_count(record))] if address and teredo_parts(address).is_cone]
+    return f'; the address of {cones[0]} says cone, and {nat} isn\'t' if cones else ''
 
 
 # Clients without an address
 
 
-def of_off(travels: Travels, record: Record) -> str:
-    return f'{record.node} has no address: ' + unqualified(travels, record.node, record)
+def of_off(told: Told, kept: Kept, record: Record, depth: int) -> str:
+    return f'{record.node} has no address: ' + unqualified(told, kept, record.node, record)
 
 
-def unqualified(travels: Travels, client: str, until: Record) -> str:
-    """Why a client has no address before a record."""
-    report = travels.report
-    for record in reversed(report.of_node(client, until)):
-        if record.act == 'restart':
-            return f'it was restarted {when(record)}, and has asked nobody since'
-        if record.fate == 'symmetric':
-            return 'a NAT on its way is symmetric: ' + two_ports(report, client, record)
-        if record.fate == 'offline':
-            return f'it gave up {when(record)}; ' + of_solicitation(travels, client, record)
-        if record.fate in SOLICITATIONS or record.fate == 'first_answer':
-            return restarted(report, client, record) + 'it asks still; ' + of_solicitation(travels, client, until)
-    return 'it never asked its server: no advance has let it'
+def unqualified(told: Told, kept: Kept, client: str, until: Record) -> str:
+    """Why a client has no address before a record: its phase, its restart, and what became of what it asked."""
+    count = told.first_count(until)
+    own, known = kept.own(client, count), kept.nodes.get(client)
+    voids = [place for place in known.voids if place < count] if known else []
+    restart = f'it was restarted at {ms(kept.lines[voids[-1]].moment)}; ' if voids else ''
+    since = kept.lines[voids[-1]].record if voids else -1
+    asked = next((record for record in reversed(told.report.of_node(client, until)) if record.fate in SOLICITATIONS), None)
+    if not isinstance(own, Client) or asked is None or asked.index <= since:
+        return f'it was restarted at {ms(kept.lines[voids[-1]].moment)}, and has asked nobody since' if voids else 'it has asked nobody yet'
+    told_of = PHASES.get(own.phase, f'it is in phase {own.phase}')
+    if own.phase == 'symmetric':
+        return restart + told_of + two_ports(told, client, until)
+    return f'{restart}{told_of}; of its latest solicitation: {last_of(told, asked.marks[0], until)}' if asked.marks else restart + told_of
 
 
-def restarted(report: Report, client: str, until: Record) -> str:
-    restarts = [record for record in report.of_node(client, until) if record.act == 'restart']
-    return f'it was restarted {when(restarts[-1])}; ' if restarts else ''
+def two_ports(told: Told, client: str, until: Record) -> str:
+    """The two endpoints that a client is seen at."""
+    seen, records = list[str](), reversed(told.report.of_node(client, until))
+    for fate in ('rs_secondary', 'rs_restricted'):
+        asked = next((record for record in records if record.fate == fate and record.entries), None)
+        seen[:0] = [asked.entries[0].source] if asked else []
+    return ': the server sees the client at ' + ' and at '.join(seen) if len(seen) > 1 else ''
 
 
-def two_ports(report: Report, client: str, until: Record) -> str:
-    asked = {record.fate: record.entries for record in report.of_node(client, until) if record.fate in SOLICITATIONS}
-    seen = [entries[0].source for fate, entries in asked.items() if fate in ('rs_restricted', 'rs_secondary') and entries]
-    return 'the server sees the client at ' + ' and at '.join(seen)
+# Peers
 
 
-def of_solicitation(travels: Travels, client: str, until: Record) -> str:
-    """What became of a client's latest solicitation, or of its answer."""
-    report = travels.report
-    asked = [record for record in report.of_node(client, until) if record.fate in SOLICITATIONS and record.marks]
-    if not asked:
-        return 'it has sent nothing'
-    return 'of its latest solicitation: ' + last_of(travels, asked[-1].marks[0], until)
+def address_about(told: Told, record: Record) -> str | None:
+    """The address that a record is about, of which `state` has no line: that which its packet is for, or came from."""
+    count, entry = told.first_count(record), told.report.entry_of(record)
+    if entry is None:
+        target = told.target(record)
+        return target if target and ':' in target else told.address_of(target, count) if target else None
+    load = carried(told).get(entry.number)
+    if load is not None:
+        packet = told.handed_in[load.packet]
+        sender, target = packet.node, told.target(packet)
+        if entry.is_six:
+            return address_named(told, sender if load.is_back else target, count)
+        return address_named(told, target if load.is_back else sender, told.first_count(packet))
+    mark: Mark = entry
+    while mark.maker.delivered is not None and told.report.is_passed_on(mark):
+        mark = told.report.came_by(mark.maker)
+    return told.address_of(mark.maker.node, told.first_count(mark.maker))
 
 
-# Tries
+def address_named(told: Told, name: str | None, count: int) -> str | None:
+    return name if name is None or ':' in name else told.address_of(name, count)
 
 
-def last_of(travels: Travels, mark: Mark, until: Record | None = None) -> str:
+def peer_about(told: Told, kept: Kept, record: Record) -> tuple[str, Peer | None]:
+    """The peer that a record is about: its name, and what the node knew of it; of one that isn't told, the only one that was tried."""
+    count, address = told.first_count(record), address_about(told, record)
+    if address is not None:
+        return told.name_of(address, count), kept.peer(record.node, address, count, record.moment)
+    tried = [peer for peer in kept.peers(record.node, count, record.moment) if peer.tries_at(record.moment)]
+    return (told.name_of(tried[0].address, count), tried[0]) if len(tried) == 1 else ('', None)
+
+
+def of_barred(told: Told, kept: Kept, record: Record, depth: int) -> str:
+    name, peer = peer_about(told, kept, record)
+    tries = peer.tries_at(record.moment) if peer else ()
+    if peer is None or not tries:
+        return ''
+    if record.moment < tries[-1] + TRY_GAP_MS:
+        return f'the latest try at {name} went out {ms(record.moment - tries[-1])} before, and {ms(TRY_GAP_MS)} lie between two'
+    return f'{count_of(len(tries))} at {name} got no answer, from {ms(tries[0])} on; ' + of_tries(told, kept, record.node, peer, record, depth)
+
+
+def count_of(tries: int) -> str:
+    return '1 try' if tries == 1 else f'{tries} tries'
+
+
+def try_records(told: Told, kept: Kept, node: str, peer: Peer, until: Record | None) -> list[Record]:
+    """The records of the tries that are kept of a peer."""
+    places = kept.nodes[node].peers.get(peer.address, []) if node in kept.nodes else []
+    found, first = dict[int, Record](), min(peer.tries, default=0)
+    for place in reversed(places):
+        line = kept.lines[place]
+        known = line.what
+        if line.moment < first:
+            break
+        if isinstance(known, Peer) and line.record >= 0 and line.moment in known.tries and line.moment in peer.tries \
+                and (until is None or line.record < until.index):
+            found[line.moment] = told.report.records[line.record]  # the first line that has the try
+    return list(reversed(found.values()))
+
+
+def drawn_by(told: Told, record: Record) -> list[Mark]:
+    """What a record sent of its own, and not because it waited or was passed on."""
+    released = told.followed.marks_of(record.index) if told.followed else set()
+    return [mark for mark in record.marks if mark.text not in released]
+
+
+def of_tries(told: Told, kept: Kept, node: str, peer: Peer, until: Record | None, depth: int = 0) -> str:
+    """What became of the try that came furthest, and of the latest where none did."""
+    marks = [mark for record in try_records(told, kept, node, peer, until) for mark in drawn_by(told, record)]
+    if not marks:
+        return 'nothing went out for it'
+    furthest = max(enumerate(marks), key=lambda one: (hops(told, one[1], until), one[0]))[1]
+    return last_of(told, furthest, until, depth + 1)
+
+
+def came_of(told: Told, mark: Mark, until: Record | None) -> Record | None:
+    """The first delivery of a mark before a record, or None."""
+    came = told.report.delivered(mark) if isinstance(mark, Entry) else []
+    return next((record for record in came if until is None or record.index < until.index), None)
+
+
+def next_of(told: Told, mark: Mark, until: Record | None) -> Mark | None:
+    """What a delivery of a mark drew or passed on, or None; of several that which comes last."""
+    record = came_of(told, mark, until)
+    if record is None or fates.is_drop(record.fate):
+        return None
+    number = getattr(mark, 'number', None)
+    if number in carried(told):  # the load goes on
+        load = carried(told)[number]
+        step = next((step for step in told.followed.of_record.get(record.index, []) if step.load == load), None) if told.followed else None
+        return next((one for one in record.marks if step and one.text == step.mark), None)
+    return next(reversed(drawn_by(told, record)), None)
+
+
+def hops(told: Told, mark: Mark, until: Record | None) -> int:
+    """How far a mark came: the deliveries of the chain that it drew."""
+    count, drawn = 0, next_of(told, mark, until)
+    while drawn is not None:
+        count, drawn = count + 1, next_of(told, drawn, until)
+    return count
+
+
+def last_of(told: Told, mark: Mark, until: Record | None = None, depth: int = 0) -> str:
     """How the chain of what a mark drew ended, as a sentence. Deliveries from a record on don't count."""
+    drawn = next_of(told, mark, until)
+    while drawn is not None:
+        mark, drawn = drawn, next_of(told, drawn, until)
     if not isinstance(mark, Entry):
         return of_loss(mark)
-    drawn = tried.next_of(travels, mark, until)
-    if drawn is not None:
-        return last_of(travels, drawn, until)
-    record, content = tried.came_of(travels, mark, until), travels.report.content(mark)
+    record, content = came_of(told, mark, until), told.report.content(mark)
     if record is None:
-        return of_undelivered(travels, mark)
+        return of_undelivered(told, mark)
     if fates.is_drop(record.fate):
-        return f'#{mark.number}, the {content}, ended at {place(record)}, {record.fate}: {of_drop(travels, record)}'
+        place = record.node if record.node != '-' else 'nobody'
+        return f'#{mark.number}, the {content}, ended at {place}, {record.fate}: {of_drop(told, record, depth + 1)}'
     return f'#{mark.number}, the {content}, came to {record.node}: {record.fate}'
 
 
-def place(record: Record) -> str:
-    return record.node if record.node != '-' else 'nobody'
+def of_waiting(told: Told, record: Record) -> str:
+    """Why a packet waits that began to at a record: what its node knows of the peer in the end."""
+    kept, known = told.kept, told.kept.touched(record.index, record.node) if told.kept else None
+    if kept is None or known is None:
+        return meaning(record)
+    count, now = len(kept.lines), told.report.records[-1].moment
+    peer = kept.peer(record.node, known.address, count, now)
+    name = told.name_of(known.address, count)
+    trust = of_lost_trust(told, kept, record, known.address, name) or f'{record.node} doesn\'t trust {name} yet; '
+    return trust + (f'{count_of(len(peer.tries_at(now)))} without an answer; {of_tries(told, kept, record.node, peer, None)}' if peer else f'{name} isn\'t listed')
 
 
-def of_tries(travels: Travels, tries: list[Record], until: Record | None = None) -> str:
-    """What became of the try that came furthest, and of the latest where none did."""
-    if not tries:
-        return 'no bubble and no test went out for it, since its peer is barred'
-    marks = [record.marks[-1] for record in tries]
-    furthest = max(marks, key=lambda mark: (tried.hops(travels, mark, until), mark.maker.index))
-    return last_of(travels, furthest, until)
-
-
-def of_waiting(travels: Travels, wait: Waiting) -> str:
-    return of_lost_trust(travels, wait) + of_tries(travels, tried.tries_of(travels, wait))
-
-
-def of_given_up(travels: Travels, wait: Waiting, record: Record) -> str:
-    """Why a packet doesn't wait any more since a record."""
-    if record.act == 'restart':
-        return f'it waited at {record.node}, which was restarted {when(record)}'
-    if record.fate == 'changed':
-        return f'it waited at {record.node}, whose address changed {when(record)}'
-    return of_lost_trust(travels, wait) + unanswered(travels, tried.tries_of(travels, wait, record), record)
-
-
-def unanswered(travels: Travels, tries: list[Record], until: Record) -> str:
-    return f'{len(tries)} tries got no answer; ' + of_tries(travels, tries, until)
-
-
-def of_lost_trust(travels: Travels, wait: Waiting) -> str:
-    """That the peer was trusted before, where the report shows it."""
-    report, node = travels.report, wait.since.node
-    heard = [record for record in report.of_node(node, wait.since) if record.fate in HEARD and tried.is_from(travels, record, wait)]
-    if not heard or [record for record in report.of_node(node, wait.since)
-                     if record.index > heard[-1].index and (record.act == 'restart' or record.fate == 'changed')]:
+def of_lost_trust(told: Told, kept: Kept, record: Record, address: str, name: str) -> str:
+    """That the peer was trusted before a record, and for how long it was fresh."""
+    peer = kept.peer(record.node, address, told.first_count(record), record.moment)
+    if peer is None or peer.at is None or peer.heard is None:
         return ''
-    silence = wait.since.moment - heard[-1].moment
-    if silence < FRESH_MS:
-        return ''
-    return f'trust has expired: {node} heard nothing from there for {silence:,} ms; '
+    return f'trust has expired: {name}, at {peer.at}, was heard {ms(record.moment - peer.heard)} before; '
 
 
-def of_barred(travels: Travels, record: Record) -> str:
-    tries = tried.tries_before(travels, record)
-    gap = record.moment - tries[-1].moment if tries else TRY_GAP_MS
-    if record.delivered is not None and gap < TRY_GAP_MS:
-        return f'the latest bubble to this peer went out {gap:,} ms before, and {TRY_GAP_MS:,} ms lie between two'
-    return unanswered(travels, tries, record)
+def of_given_up(told: Told, record: Record, since: Record) -> str:
+    """Why a packet that waited since a record ended at another one, which gave up."""
+    kept, known = told.kept, told.kept.touched(record.index, record.node) if told.kept else None
+    if kept is None or known is None:
+        return meaning(record)
+    name = told.name_of(known.address, told.first_count(record))
+    peer = kept.peer(record.node, known.address, told.first_count(record), record.moment) or known
+    return of_lost_trust(told, kept, since, known.address, name) + f'{count_of(len(peer.tries_at(record.moment)))} got no answer; ' \
+        + of_tries(told, kept, record.node, peer, record)
 
 
 # The rest
 
 
-def of_destination(travels: Travels, record: Record) -> str:
-    report = travels.report
-    peer = travels.targets[record.event] if record.event < len(travels.targets) else None
-    without = [client for client in ([peer] if peer in report.clients() else report.clients())
-               if client != record.node and report.address_at(client, record) is None]
-    if not without:
+def of_destination(told: Told, kept: Kept, record: Record, depth: int) -> str:
+    target = told.target(record)
+    if target not in told.known.of('client') or kept.address(target, told.first_count(record)) is not None:
         return 'the destination is none that this node sends to'
-    return f'{without[0]} has no address, and stands for ::; ' + unqualified(travels, without[0], record)
+    return f'{target} has no address, and stands for ::; ' + unqualified(told, kept, target, record)
 
 
-def of_mismatch(travels: Travels, record: Record) -> str:
-    report = travels.report
-    entry = report.came_by(record)
+def of_mismatch(told: Told, kept: Kept, record: Record, depth: int) -> str:
+    entry = told.report.came_by(record)
     if entry.maker.fate == 'put':
         word = entry.maker.act.partition(':')[0]
         return f'{word} of event {entry.maker.event} put it there from {entry.source}, and its address embeds another endpoint'
-    return f'{entry.maker.node} sent it from {entry.source}, and its source embeds another endpoint' + other_port(report, entry, record)
+    return f'{entry.maker.node} sent it from {entry.source}, and its source embeds another endpoint' + other_port(told, kept, entry, record)
 
 
-def of_unlisted(travels: Travels, record: Record) -> str:
-    report, relay = travels.report, record.node
-    entry = report.came_by(record)
-    before = [other for other in report.of_node(relay, record) if other.fate != 'unlisted']
-    known = [other for other in before if entry.source in [mark.target for mark in other.entries]
-             or other.delivered in report.entries and report.came_by(other).source == entry.source and other is not record]
-    restarts = [other for other in before if other.act == 'restart']
-    if restarts and (not known or restarts[-1].index > known[-1].index):
-        return f'{relay} was restarted {when(restarts[-1])}, and knows nothing of {entry.source} since'
-    if known:
-        return f'{relay} had nothing to do with {entry.source} for {record.moment - known[-1].moment:,} ms: forgotten after {LISTED_MS // 1000} s'
-    return f'{relay} never had a packet for {entry.source}: the IPv6 side has to speak first'
+def of_unlisted(told: Told, kept: Kept, record: Record, depth: int) -> str:
+    relay, count, source = record.node, told.first_count(record), told.report.came_by(record).source
+    known = kept.nodes.get(relay)
+    places = [place for address, places in known.peers.items() if embeds(address, source) for place in places if place < count] if known else []
+    if not places or known is None:
+        return f'{relay} never had a packet for {source}: the IPv6 side has to speak first'
+    voids = [place for place in known.voids if max(places) < place < count]
+    if voids:
+        return f'{relay} was restarted at {ms(kept.lines[voids[-1]].moment)}, and knows nothing of {source} since'
+    peer = kept.lines[max(places)].what
+    touched = peer.touched if isinstance(peer, Peer) else None
+    return f'{relay} had nothing to do with {source} for {ms(record.moment - (touched or 0))}: it isn\'t listed any more'
 
 
-def of_old_address(travels: Travels, record: Record) -> str:
-    told = [other for other in travels.report.of_node(record.node, record) if other.address]
-    return f'{record.node} has another address now, {told[-1].address}, ' + when(told[-1]) if told else 'it is for another address'
+def embeds(address: str, endpoint: str) -> bool:
+    return address.startswith('2001:0:') and teredo_parts(address).endpoint == endpoint
 
 
-def of_nowhere(travels: Travels, record: Record) -> str:
-    entry = travels.report.came_by(record)
+def of_old_address(told: Told, kept: Kept, record: Record, depth: int) -> str:
+    address = kept.address(record.node, told.first_count(record))
+    return f'{record.node} has another address now, {address}' if address else ''
+
+
+def of_nowhere(told: Told, kept: Kept, record: Record, depth: int) -> str:
+    entry = told.report.came_by(record)
     if entry.is_six:
         return 'no native host has its destination: there is no relay that would answer'
     return f'nobody is at {entry.target}'
 
 
-def of_source(travels: Travels, record: Record) -> str:
+def of_source(told: Told, kept: Kept, record: Record, depth: int) -> str:
     if record.delivered is None:
-        return f'its source is not the address that {record.node} has'
-    entry = travels.report.came_by(record)
+        address = told.address_of(record.node, told.first_count(record))
+        return f'its source is not the address that {record.node} has, {address}' if address else ''
+    entry = told.report.came_by(record)
     if entry.is_six:
         return f'{record.node} takes nothing of the IPv6 side from a Teredo source, or from one that isn\'t global'
     return f'{record.node} takes nothing from {entry.source}, or of the packet\'s source'
 
 
-def of_suspicious(travels: Travels, record: Record) -> str:
-    test = f'; the test: {last_of(travels, record.marks[0])}' if record.marks else ''
-    return f'{record.node} doesn\'t trust its sender yet, and asks it first' + test
+def of_suspicious(told: Told, kept: Kept, record: Record, depth: int) -> str:
+    name, peer = peer_about(told, kept, record)
+    test = drawn_by(told, record)
+    said = f'{record.node} doesn\'t trust {name or "its sender"} yet' + (f', and holds {peer.held} of its packets' if peer and peer.held else '')
+    return said + (f'; the test: {last_of(told, test[0], None, depth + 1)}' if test else '')
 
 
-def of_held(travels: Travels, hold: Hold) -> str:
-    """Why a packet is held: the latest test that went out at its node, up to the one of its own."""
-    tests = [record for record in travels.report.of_node(hold.since.node) if record.fate in TESTS and record.marks
-             and record.index <= hold.since.index]
-    test = f'; the test: {last_of(travels, tests[-1].marks[0])}' if tests else ''
-    return f'{hold.since.node} doesn\'t trust its sender yet, and holds it' + test
-
-
-def of_held_dropped(hold: Hold, record: Record) -> str:
-    """Why a packet isn't held any more since a record."""
-    if record.act == 'restart':
-        return f'it was held at {record.node}, which was restarted {when(record)}'
-    if record.fate == 'changed':
-        return f'it was held at {record.node}, whose address changed {when(record)}'
-    return f'it came from {hold.source}, and {record.node} trusts its sender elsewhere'
+def of_held(told: Told, record: Record) -> str:
+    """Why a packet is held since a record: its sender isn't trusted yet, and what became of the latest test up to that record."""
+    kept, known = told.kept, told.kept.touched(record.index, record.node) if told.kept else None
+    if kept is None or known is None:
+        return meaning(record)
+    count, now = len(kept.lines), told.report.records[-1].moment
+    peer, name = kept.peer(record.node, known.address, count, now), told.name_of(known.address, count)
+    return f'{record.node} doesn\'t trust {name} yet, and holds it; ' + (of_tries(told, kept, record.node, peer, None) if peer else f'{name} isn\'t listed')

@@ -1,7 +1,7 @@
 # Completion of teredo's words for fish: commands, files, and the options of the tools.
 # In a checkout: source tools/completion.fish. Else as teredo.fish in a folder of $fish_complete_path.
-set -l words lab nested reach gen show wire audit explain serve qualify lint trace flow json csv play check generated explore sweep web page meet pairs capture build
-set -l files lab nested reach wire audit explain lint trace flow json csv play check explore sweep web page meet capture
+set -l words lab nested reach gen show wire audit explain serve qualify lint trace follow state flow json csv play check generated explore sweep web page meet pairs capture build
+set -l files lab nested reach wire audit explain lint trace follow state flow json csv play check explore sweep web page meet capture
 
 function __teredo_first
     test (count (commandline -opc)) -eq 1
@@ -43,9 +43,11 @@ complete -c teredo -n '__teredo_of help' -a "$words"
 complete -c teredo -n "__teredo_of $files" -F
 complete -c teredo -n '__teredo_of serve audit explain qualify' -a '(__teredo_addresses)'
 complete -c teredo -n __teredo_pair -a 'cone restricted port symmetric native'
-complete -c teredo -n '__teredo_of lint json csv play trace flow explore sweep web page check capture' -l program -r
-__teredo_options lint,json,csv,play,trace,flow,explore chain
+complete -c teredo -n '__teredo_of lint json csv play trace follow state flow explore sweep web page check capture' -l program -r
+__teredo_options lint,json,csv,play,trace,follow,state,flow,explore chain
 __teredo_options trace event packets:none
+__teredo_options follow packet lines:none json:none
+__teredo_options state at node json:none
 __teredo_options flow svg:none wide:none narrow:none ends:none from to nodes
 __teredo_options explore event lose repeat most jobs
 __teredo_options sweep set seeds lose delay shard plot resume:none jobs

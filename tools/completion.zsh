@@ -6,13 +6,15 @@ _teredo() {
   local name=$words[2] before=$words[CURRENT-1]
   kinds=(cone restricted port symmetric native)
   if (( CURRENT == 2 )); then
-    compadd -- lab nested reach gen show wire audit explain serve qualify lint trace flow json csv play check generated explore sweep web page meet pairs capture build help --help --version
+    compadd -- lab nested reach gen show wire audit explain serve qualify lint trace follow state flow json csv play check generated explore sweep web page meet pairs capture build help --help --version
     return
   fi
   case $name in
-    help) (( CURRENT > 3 )) || compadd -- lab nested reach gen show wire audit explain serve qualify lint trace flow json csv play check generated explore sweep web page meet pairs capture build; return ;;
+    help) (( CURRENT > 3 )) || compadd -- lab nested reach gen show wire audit explain serve qualify lint trace follow state flow json csv play check generated explore sweep web page meet pairs capture build; return ;;
     lint | json | csv | play) options=(--program --chain) ;;
     trace) options=(--program --chain --event --packets) ;;
+    follow) options=(--program --chain --packet --lines --json) ;;
+    state) options=(--program --chain --at --node --json) ;;
     flow) options=(--program --chain --svg --wide --narrow --ends --from --to --nodes) ;;
     explore) options=(--program --chain --event --lose --repeat --most --jobs) ;;
     sweep) options=(--program --set --seeds --lose --delay --shard --plot --out --resume --jobs) ;;
@@ -28,14 +30,14 @@ _teredo() {
     return
   fi
   case $before in
-    --chain | --event | --from | --to | --nodes | --jobs | --lose | --delay | --repeat | --most | --set | --seeds | --shard | --plot | --port | --overlap) return ;;
+    --chain | --event | --packet | --at | --node | --from | --to | --nodes | --jobs | --lose | --delay | --repeat | --most | --set | --seeds | --shard | --plot | --port | --overlap) return ;;
   esac
   if [[ $PREFIX == -* ]]; then
     compadd -- $options --help
     return
   fi
   case $name:$((CURRENT - 1)) in
-    lab:2 | nested:2 | reach:2 | wire:2 | audit:4 | explain:4 | lint:* | trace:* | flow:* | json:* | csv:* | play:* | check:* | explore:* | sweep:* | web:* | page:* | meet:* | capture:*)
+    lab:2 | nested:2 | reach:2 | wire:2 | audit:4 | explain:4 | lint:* | trace:* | follow:* | state:* | flow:* | json:* | csv:* | play:* | check:* | explore:* | sweep:* | web:* | page:* | meet:* | capture:*)
       _files
       ;;
     serve:[23] | audit:[23] | explain:[23] | qualify:[234])

@@ -31,10 +31,10 @@ def row_of(record: Record) -> list[Any]:
 
 
 def main() -> int:
-    report, *_ = load(command.over_report(__doc__).parse_args())
+    told = load(command.over_report(__doc__).parse_args())
     table = csv.writer(sys.stdout, lineterminator='\n')
     table.writerow(COLUMNS)
-    table.writerows(row_of(record) for record in report.records)
+    table.writerows(row_of(record) for record in told.report.records)
     return 0
 
 

@@ -22,10 +22,11 @@ import chains
 import command
 import probes
 import toml_places
-import travel
 import workers
 from fates import is_drop
-from report import Report
+from followed import ARRIVED
+from report import HANDED_IN
+from told import Told, teller_of
 
 MOST = 100_000  # schedules, where no other number is named
 SPARE_MAX = 8  # losses, or repeats
@@ -42,21 +43,22 @@ class Task:
     has_settle: bool  # whether `settle` delivers just what follows
 
     def play(self, numbers, is_whole):
-        """The report with these deliveries behind the last event, and where `is_whole` with all that is left behind them."""
+        """What is told with these deliveries behind the last event, and where `is_whole` with all that is left behind them."""
         more = [f'deliver {number}' for number in numbers] + ['settle'] * is_whole
-        status, written = command.play(self.program, probes.with_events(self.text, more) if more else self.text, self.chain)
-        if status:
-            raise command.Refusal(command.said(status, written))
-        return Report(written)
+        told = Told(teller_of(self.program), probes.with_events(self.text, more) if more else self.text, self.chain)
+        if told.status:
+            raise command.Refusal(command.said(*told.played))
+        return told
 
 
 @dataclasses.dataclass
 class Run:
-    """A report whose deliveries behind the last event are one whole order."""
-    report: Report
+    """A play whose deliveries behind the last event are one whole order."""
+    told: Told
     event: int
 
     def __post_init__(self):
+        self.report = self.told.report
         self.records = [record for record in self.report.records if record.event >= self.event]
         self.deliveries = [record for record in self.records if record.act.startswith('deliver:') and record.event > self.event]
         self.numbers = [record.delivered for record in self.deliveries]
@@ -91,22 +93,21 @@ def whole_run(task, event, front):
         numbers += left
 
 
-def arrival(run, targets):
+def arrival(run):
     """After how many deliveries the packet of the event has arrived, or None."""
     packet = run.records[0]
-    travels = travel.Travels(run.report, targets)
-    if travel.text_of(travels, packet) is None:
+    if packet.act not in HANDED_IN:
         return None
-    end = travels.end_of_event(packet)
-    if end.state != travel.ARRIVED:
-        return None
-    return sum(record.index <= end.record.index for record in run.deliveries)
+    if run.told.followed is None:
+        raise command.Refusal('this program says of no packet where it went: it answers neither `follow` nor `state`')
+    end = run.told.followed.by_record[packet.index].end
+    return sum(record.index <= end.number for record in run.deliveries) if end.state == ARRIVED else None
 
 
-def schedules_of(task, event, targets, front):
+def schedules_of(task, event, front):
     """The schedules that this front leads to first, and the fronts that it leaves to others."""
     run = whole_run(task, event, front)
-    numbers, fates, at = run.numbers, [record.fate for record in run.deliveries], arrival(run, targets)
+    numbers, fates, at = run.numbers, [record.fate for record in run.deliveries], arrival(run)
     found = [(tuple(fates[:count]), at is not None and at <= count, tuple(numbers[:count]), run.names(run.left(count)))
              for count in range(len(front), len(numbers) + 1) if len(run.left(count)) <= task.lose]
     return found, fronts_of(task, run, len(front))
@@ -144,10 +145,10 @@ class Found:
             self.without[name][1] += has_arrived
 
 
-def explored(task, event, targets, most, pool, progress):
+def explored(task, event, most, pool, progress):
     """All schedules, or the first ones, and whether those are all."""
     found, fronts = Found(), [[]]
-    step = functools.partial(schedules_of, task, event, targets)
+    step = functools.partial(schedules_of, task, event)
     while fronts:
         fronts, now = [], fronts
         for made, others in pool.each(step, now, len(now)):
@@ -172,7 +173,7 @@ def cut(path, text, number):
 
 
 def task_of(options):
-    """What is to be explored, the number of the event, and the peers that the events name."""
+    """What is to be explored, the number of the event, and the play in which nothing of it is delivered yet."""
     text, event = cut(options.file, command.read(options.file), options.event)
     chain = chains.chain_of(text) if options.chain is None else options.chain
     try:
@@ -184,7 +185,7 @@ def task_of(options):
     events = toml_places.scenario_events(options.file, text)
     if not run.left(0):
         raise command.Refusal(f'{options.file}: nothing is left to deliver behind event {event}, {events[event][:40]}; --event N takes another one')
-    return task, event, travel.targets_of(events), run.records[0]
+    return task, event, run
 
 
 def begun(task, event):
@@ -194,13 +195,13 @@ def begun(task, event):
     return dataclasses.replace(task, has_settle=task.chain is None and undelivered == set(run.left(0))), run
 
 
-def lines_of(found, is_all, packet):
+def lines_of(found, is_all, run):
     """What is said of all schedules."""
     least, most = min(found.lengths, default=0), max(found.lengths, default=0)
     lengths = f'{least}' if least == most else f'{least} to {most}'
     schedules, deliveries = 'schedule' + 's' * (found.total != 1), 'delivery' if most == 1 else 'deliveries'
     lines = [f'{found.total:,} {schedules} of {lengths} {deliveries}' + ('' if is_all else ', and there are more')]
-    is_packet = packet.act in travel.HANDED_IN
+    is_packet = run.records[0].act in HANDED_IN
     if is_packet:
         lines.append(f'the packet arrives in {found.arrived:,} of {found.total:,}')
         lines += [f'  without {name}: in {arrived:,} of {count:,}' + ('; its loss kills the packet' if not arrived and is_all else '')
@@ -241,12 +242,14 @@ def options_of(words):
 def main():
     options = options_of(sys.argv[1:])
     command.tell_fates()
-    task, event, targets, packet = task_of(options)
+    task, event, run = task_of(options)
     progress = workers.Progress()
     with workers.Pool(options.jobs) as pool:
-        found, is_all = explored(task, event, targets, options.most, pool, progress)
+        found, is_all = explored(task, event, options.most, pool, progress)
     progress.end()
-    command.show(lines_of(found, is_all, packet))
+    command.show(lines_of(found, is_all, run))
+    if run.records[0].act in HANDED_IN and run.told.note:
+        command.tell(run.told.note)
     return 0 if is_all else command.FOUND
 
 

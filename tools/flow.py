@@ -23,10 +23,9 @@ sys.dont_write_bytecode = True
 import command
 import ladder_svg
 import ladder_text
-import topology
 from ladder import Ladder
+from told import Told
 from trace import load
-from travel import Travels, targets_of
 
 
 def options_of(words):
@@ -42,17 +41,15 @@ def options_of(words):
     return parser.parse_args(words)
 
 
-def ladder_of(report, events, known, options):
-    """The ladder of a report, and of a scenario's events where there are some."""
-    Travels(report, targets_of(events))  # which tells what the entries are that waited
-    return Ladder(report, options.first, options.last, [name for name in options.nodes.split(',') if name], known)
+def ladder_of(told: Told, options):
+    """The ladder of a scenario, or of a report alone."""
+    told.kept  # by which entries are named that let go what waited
+    return Ladder(told.report, options.first, options.last, [name for name in options.nodes.split(',') if name], told.known)
 
 
 def lines_of(options):
     """The lines of the ladder or of the picture that is asked for."""
-    report, events, text = load(options)
-    known = topology.topology_of(text, options.chain) if text is not None else None
-    ladder = ladder_of(report, events, known, options)
+    ladder = ladder_of(load(options), options)
     if options.svg:
         return ladder_svg.svg_of(ladder, f'{os.path.basename(options.file)}: who sent what to whom', options.ends)
     if sys.stdout.isatty() and not options.wide and not options.narrow:

@@ -56,8 +56,8 @@ def lines_of(report: Report) -> list[dict[str, Any]]:
 
 
 def main() -> int:
-    report, *_ = load(command.over_report(__doc__).parse_args())
-    for line in lines_of(report):
+    told = load(command.over_report(__doc__).parse_args())
+    for line in lines_of(told.report):
         print(json.dumps(line))
     return 0
 

@@ -11,10 +11,11 @@ import command
 import fates
 import probes
 
-WITHIN = ('within 1', 'within 2', 'within 4', 'within 5', 'within 6', 'within 9')
-SHUT = ('off', 'away', 'one_nat', 'full', 'stale', 'barred')
+WITHIN = ('within 1', 'within 2', *(f'within {count}' for count in range(4, 14)))
+SHUT = ('off', 'away', 'self', 'moved', 'one_nat', 'full', 'stale', 'barred')
 UNSAID = ('lost', 'known')
 ASKED_MAX = 64  # moments of a scenario
+EVENTS_MAX = 1000  # of a scenario whose moments are asked for
 
 Words = dict[tuple[str, str], str]  # of each two hosts
 

@@ -18,17 +18,16 @@ sys.dont_write_bytecode = True
 
 import chains
 import command
-import moments
+import kept
 import packets
 import parts
-import peer_times
 import player
 import probes
 import view
 
 FOLDER = os.path.join(command.TOP, 'tools', 'web')
 SCRIPTS = ('page.js', 'links.js', 'ladder.js', 'parts.js', 'nodes.js', 'choices.js')  # which make one script, in this order
-PEERS = {'fresh': peer_times.FRESH_MS, 'listed': peer_times.LISTED_MS, 'gap': peer_times.TRY_GAP_MS, 'tries': moments.TRIES_MAX}
+PEERS = {'fresh': kept.FRESH_MS, 'listed': kept.LISTED_MS, 'gap': kept.TRY_GAP_MS}
 CAPTURE_MAX = 1 << 20  # bytes of a capture that are put into a page
 PARTS_MAX = 256  # different datagrams whose parts are put into a page
 PROBES_MAX = 24  # pairs whose next packet is played for a page
@@ -106,8 +105,10 @@ def bytes_of(playing, text, shown):
 
 
 def probes_of(playing, text, name, shown):
-    """The views of the next packets of the pairs of a matrix, by their names."""
+    """The views of the next packets of the pairs of a matrix, by their names; none where there are more records than are shown at once."""
     made = {}
+    if shown['count'] > shown['most']:
+        return made
     for sender, receiver, _ in (shown.get('reach') or {}).get('pairs', [])[:PROBES_MAX]:
         longer, event = probes.probe(text, sender, receiver, playing.play)
         made[f'{sender} {receiver}'] = {'text': longer, 'event': event, 'view': view.view_of(playing, longer, name, event=event)}

@@ -28,17 +28,23 @@ import command
 import completion
 import fates
 import ladder_text
+import ends
 import topology
 import trace
-import travel
 import wanted
 from ladder import Ladder
 from prompted import Session, shown
-from report import Report
+from report import HANDED_IN, Report
+from told import Told, teller_of
 
 
 def report_of(session):
     return Report(session.written)
+
+
+def told_of(session):
+    """What is told of the scenario as it is now."""
+    return Told(teller_of(session.program), session.whole(), session.chain, session.written)
 
 
 def reported(session):
@@ -67,10 +73,15 @@ def wire(session, words):
 
 
 def why(session, words):
-    travels = travel.Travels(report_of(session), travel.targets_of(session.events()))
-    lines = [f'{session.events()[record.event]}: {travel.text_of(travels, record)}' for record in travels.report.records
-             if travel.text_of(travels, record) and (record.event == number_of(words) if words else record.act in travel.HANDED_IN)]
-    return lines or [no_packet(session, words)]
+    told = told_of(session)
+    lines = [f'{session.events()[record.event]}: {ends.end_of(told, record)}' for record in told.report.records
+             if record.act in HANDED_IN and (not words or record.event == number_of(words))]
+    return lines + note_of(told) if lines else [no_packet(session, words)]
+
+
+def note_of(told):
+    """What is to be said where packets are shown of which nothing is proved."""
+    return [f'({told.note})'] if told.note else []
 
 
 def no_packet(session, words):
@@ -86,12 +97,12 @@ def number_of(words):
 
 def trees(session, words):
     """What came of each event, or of one."""
-    travels = travel.Travels(report_of(session), travel.targets_of(session.events()))
+    told = told_of(session)
     if words:
         number = number_of(words)
-        return [f'there is no event {words[0]}'] if number is None else trace.event_lines(travels, number, session.events())
-    return [line for record in travels.report.records if trace.is_root(record) for line in trace.tree_of(travels, record, session.events())] \
-        or ['nothing has happened yet']
+        return [f'there is no event {words[0]}'] if number is None else trace.event_lines(told, number)
+    told.kept  # by which entries are named that let go what waited
+    return [line for record in told.report.records if trace.is_root(record) for line in trace.tree_of(told, record)] or ['nothing has happened yet']
 
 
 def flow(session, words):
@@ -99,11 +110,10 @@ def flow(session, words):
     numbers = [number_of([word]) for word in words]
     if None in numbers:
         return usage('flow')
-    report = report_of(session)
-    travel.Travels(report, travel.targets_of(session.events()))  # which tells what the entries are that waited
-    known = topology.topology_of(session.whole(), session.chain)
+    told = told_of(session)
+    told.kept  # by which entries are named that let go what waited
     first, last = (numbers + [0, None][len(numbers):])
-    ladder = Ladder(report, first, last, known=known)
+    ladder = Ladder(told.report, first, last, known=told.known)
     return ladder_text.narrow_of(ladder) or ['nothing has happened yet']
 
 

@@ -4,8 +4,10 @@ from __future__ import annotations
 
 import glob
 import os
+import re
 import subprocess
 import threading
+from collections.abc import Sequence
 from typing import Union
 
 import chains
@@ -25,7 +27,7 @@ class Player:
         self.program, self.seconds = program, seconds
         self.has_session = has_session  # of its own, which no interrupt of a terminal reaches
         self.turns, self.running, self.lock = threading.BoundedSemaphore(count), set[subprocess.Popen[bytes]](), threading.Lock()
-        self.has_reach = True  # until the program says that it has no such word
+        self.unknown = set[str]()  # the commands of which the program said that it has none such
 
     def run(self, words: list[str], text: str) -> tuple[int, bytes]:
         """The status of the program with these words and this text on its standard input, and what it wrote."""
@@ -60,11 +62,14 @@ class Player:
                 self.running.discard(started)
         return started.returncode, written
 
+    def answer(self, words: Sequence[str], text: str) -> tuple[int, str]:
+        """The same as text."""
+        status, written = self.run(list(words), text)
+        return status, written.decode('utf-8', 'replace')
+
     def play(self, text: str) -> tuple[int, str]:
         """The same of a scenario, with the chain that it says."""
-        chain = chains.chain_of(text)
-        status, written = self.run(['lab', STDIN] if chain is None else ['nested', STDIN, chain], text)
-        return status, written.decode('utf-8', 'replace')
+        return self.answer(played_by(text), text)
 
     def wire(self, text: str) -> tuple[int, bytes]:
         """The capture of a scenario's wire."""
@@ -76,11 +81,11 @@ class Player:
 
     def reach(self, text: str) -> list[str] | None:
         """Who reaches whom in the end, in lines; None where the program doesn't know, or doesn't play that."""
-        if not self.has_reach:
+        if 'reach' in self.unknown:
             return None
-        status, written = self.run(['reach', STDIN, matrix.chain_for(text)], text)
-        self.has_reach = status != command.WRONG_WORDS
-        return written.decode('utf-8', 'replace').splitlines() if status == 0 else None
+        status, written = self.answer(['reach', STDIN, matrix.chain_for(text)], text)
+        self.unknown |= {'reach'} if status == command.WRONG_WORDS else set()
+        return written.splitlines() if status == 0 else None
 
     def close(self) -> None:
         """Ends what is still played."""
@@ -90,15 +95,29 @@ class Player:
 
 
 class Stored:
-    """The examples as they stand, each with the report beside it, where there is no program: nothing else is played."""
+    """The examples as they stand, each with the report beside it, and what `state` says of it, where there is no program: nothing else is
+    played."""
     note = NOT_PLAYED
 
     def __init__(self) -> None:
+        self.unknown = {'follow', 'reach'}
         self.reports: dict[str, tuple[int, str]] = {}
+        self.states: dict[str, str] = {}
+        shown = stored_states()
         for path in glob.glob(os.path.join(command.TOP, 'examples', '*', '*.toml')):
             if os.path.exists(path + '.stdout'):
                 status = command.read(path + '.status') if os.path.exists(path + '.status') else '0'
-                self.reports[command.read(path)] = int(status), command.read(path + '.stdout')
+                text, name = command.read(path), os.path.basename(path)
+                self.reports[text] = int(status), command.read(path + '.stdout')
+                self.states |= {text: shown[name]} if name in shown else {}
+
+    def answer(self, words: Sequence[str], text: str) -> tuple[int, str]:
+        if words[0] == 'state':  # which is asked of what was played, and of that as it says its chain
+            is_asked = text in self.states and [*words] == ['state', STDIN, matrix.chain_for(text), 'each']
+            return (0, self.states[text]) if is_asked else (command.NOT_BUILT, '')
+        if [*words] != played_by(text):
+            raise command.Refusal(NOT_PLAYED, command.NOT_BUILT)
+        return self.play(text)
 
     def play(self, text: str) -> tuple[int, str]:
         if text not in self.reports:
@@ -122,11 +141,29 @@ class Trial(Stored):
     """The same, and each other scenario by a trial of the sources, which ./teredo makes once, and of which it says that nothing is proved."""
     note = ''
 
+    def answer(self, words: Sequence[str], text: str) -> tuple[int, str]:
+        if words[0] == 'state' or [*words] == played_by(text):
+            return super().answer(words, text)
+        return command.play(command.PROGRAM, text, words[2] if words[0] == 'nested' else None, once=True)
+
     def play(self, text: str) -> tuple[int, str]:
         if text not in self.reports:
             self.reports[text] = command.play(command.PROGRAM, text, once=True)
             self.note = UNPROVED
         return self.reports[text]
+
+
+def played_by(text: str) -> list[str]:
+    """The words that play a scenario, with the chain that it says."""
+    chain = chains.chain_of(text)
+    return ['lab', STDIN] if chain is None else ['nested', STDIN, chain]
+
+
+def stored_states() -> dict[str, str]:
+    """What `state FILE CHAIN each` says of each example, by its name."""
+    path = os.path.join(command.TOP, 'tests', 'stored', 'shown.txt')
+    blocks = re.split(r'^== (\S+)\n', command.read(path), flags=re.M)[1:] if os.path.exists(path) else []
+    return dict(zip(blocks[::2], blocks[1::2]))
 
 
 Playing = Union[Player, Stored]

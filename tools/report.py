@@ -22,6 +22,7 @@ HEAD = re.compile(rf'({NUMBER}) ({NUMBER}) ({NUMBER}) ([a-z_]{{1,16}}(?::{NUMBER
 TOTALS = re.compile(rf'total(?: [a-z_]{{1,16}} {NUMBER}){{1,16}}|wire full', re.A)
 COUNT = re.compile(rf'(handed|late|gone)/({NUMBER})$', re.A)
 NO_ENTRY = 'no_entry'  # of a delivery of nothing
+HANDED_IN = ('host', 'echo', 'raw')  # acts by which a host hands in a packet
 SOLICITATIONS = ('rs_cone', 'rs_restricted', 'rs_secondary', 'refresh')
 FORWARDS = ('forward', 'forward_origin', 'six', 'sent', 'sent_cone')  # of a delivery: what came goes on
 FIXED = {'advert': 'advertisement', 'echoed': 'echo reply', 'put': 'datagram', 'indirect': 'bubble',
@@ -51,6 +52,12 @@ class Entry:
             return f'IPv6, to {self.relay or "a native host"}'
         return f'{self.source} > {self.target}'
 
+    @property
+    def text(self) -> str:
+        """The mark, as the line has it."""
+        way = (f'six:{self.relay}' if self.relay else 'six') if self.is_six else f'{self.source}>{self.target}'
+        return f'#{self.number}={way}/{self.length}'
+
 
 @dataclass
 class Loss:
@@ -59,6 +66,10 @@ class Loss:
     maker: Record
     target: str
     length: int
+
+    @property
+    def text(self) -> str:
+        return f'!{self.word}={self.target}/{self.length}'
 
 
 Mark = Union[Entry, Loss]

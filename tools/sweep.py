@@ -32,17 +32,19 @@ sys.dont_write_bytecode = True
 import chains
 import chance
 import command
-import moments
+import ends
 import plot
 import results
 import template
 import toml_places
-import travel
 import workers
-from report import NODE, Report
+from followed import STATES
+from report import HANDED_IN, NODE
+from told import PLAYED, Told, phase_of, teller_of
 
 TOTALS = ('records', 'entries', 'delivered', 'handed', 'kept', 'dropped')
 SHARD = re.compile(r'([1-9]\d{0,5})/([1-9]\d{0,5})')
+ASKING = ('cone', 'restricted', 'secondary')  # phases
 ENDS = ('qualified_cone', 'qualified_restricted', 'symmetric', 'offline')
 SAID = 'said'  # the last column: what was said of a scenario that was refused
 SHAPES_MAX = 1000  # scenarios whose clients are looked at before
@@ -58,71 +60,57 @@ class Columns:
         self.clients = list(dict.fromkeys(client['name'] for top in tops for client in chains.tables(top, 'client')
                                           if NODE.fullmatch(str(client.get('name')))))
         events = tops[0].get('events') if isinstance(tops[0].get('events'), list) else []
-        self.packets = [number for number, event in enumerate(events) if str(event).split(' ')[0] in travel.HANDED_IN] if loops is None else None
+        self.packets = [number for number, event in enumerate(events) if str(event).split(' ')[0] in HANDED_IN] if loops is None else None
 
     def names(self):
-        packets = travel.RANKS if self.packets is None else [f'packet_{number}' for number in self.packets]
+        packets = STATES if self.packets is None else [f'packet_{number}' for number in self.packets]
         return [*TOTALS, *self.clients, *packets, SAID]
 
 
-def end_of(report, client):
+def end_of(told, client):
     """Where a client's qualification is in the end: its verdict, or the phase in which it asks."""
-    for record in reversed(report.of_node(client)):
-        if record.act == 'restart':
-            return 'restarted'
-        if record.fate in ENDS:
-            return record.fate
-        if record.fate in moments.PHASES and moments.PHASES[record.fate] != 'Qualified':
-            return f'asks_{moments.PHASES[record.fate].lower()}'
-    return 'silent'
+    records = told.report.of_node(client)
+    latest = next((record for record in reversed(records) if record.act == 'restart' or record.fate in ENDS), None)
+    own = phase_of(told, client)
+    if own is not None and own.phase in ASKING:
+        return 'restarted' if records and records[-1].act == 'restart' else f'asks_{own.phase}' if records else 'silent'
+    return latest.fate if latest and latest.act != 'restart' else own.phase if own else 'restarted' if latest else 'silent'
 
 
-def fate_of(travels, record):
-    """What became of a packet, in two words."""
-    end = travels.end_of_event(record)
-    losses = [f'!{loss.word}' for loss in end.record.losses]
-    if end.is_undelivered:
-        return f'{end.state} undelivered'
-    return f'{end.state} {losses[0] if end.state == travel.LOST and losses else end.record.fate}'
-
-
-def ends_of(travels, columns, numbers):
-    """What became of the packets: of each its fate, or how many came to which end."""
-    handed = {record.event: record for record in travels.report.records if record.act in travel.HANDED_IN}
+def ends_of(told, columns, numbers):
+    """What became of the packets: of each its end in two words, or how many came to which end."""
+    handed = {record.event: record for record in told.handed_in}
     if columns.packets is None:
-        counts = collections.Counter(travels.end_of_event(record).state for record in handed.values())
-        return [counts[state] for state in travel.RANKS]
+        counts = collections.Counter(packet.end.state for packet in told.followed.packets) if told.followed else None
+        return [counts[state] for state in STATES] if counts is not None else [ends.UNSAID] * len(STATES)
     records = [handed.get(numbers.get(packet)) for packet in columns.packets]
-    return ['not played' if record is None else fate_of(travels, record) for record in records]
+    return ['not played' if record is None else ends.end_of(told, record).words for record in records]
 
 
 def played_once(program, path, text, by_chance):
-    """The status, what was written, the events that were played, and of each event of the text which one of these it is."""
+    """The status, what is told of the play, and of each event of the text which one of those that were played it is."""
     if by_chance.is_any:
         play = chance.Play(program, text, by_chance)
-        return play.status, play.written, play.events, play.numbers
-    status, written = command.play(program, text)
-    events = toml_places.scenario_events(path, text)
-    return status, written, events, {number: number for number in range(len(events))}
+        return play.status, Told(teller_of(program), play.text_now(), play.chain, play.written), play.numbers
+    told = Told(teller_of(program), text, path=path)
+    return told.status, told, {number: number for number in range(len(told.events))}
 
 
 def row_of(program, made, columns, by_chance, chosen):
     """The line of one choice of values."""
     number, values = chosen
     try:
-        status, written, events, numbers = played_once(program, made.path, made.with_values(values), by_chance)
+        status, told, numbers = played_once(program, made.path, made.with_values(values), by_chance)
+        written = told.played[1]
     except command.Refusal as fault:
         if fault.status not in (command.FOUND, command.WRONG_WORDS):
             raise
-        status, written, events = command.FOUND, str(fault), []
+        status, written = command.FOUND, str(fault)
     row = [number, *values.values(), status]
     if status not in (0, 8):
         return row + [''] * (len(columns.names()) - 1) + [written.strip()]
-    report = Report(written)
-    counts = dict(re.findall(r'(\w+) (\d+)', report.totals))
-    travels = travel.Travels(report, travel.targets_of(events))
-    return row + [counts.get(name, '') for name in TOTALS] + [end_of(report, client) for client in columns.clients] \
-        + ends_of(travels, columns, numbers) + ['']
+    counts = dict(re.findall(r'(\w+) (\d+)', told.report.totals))
+    return row + [counts.get(name, '') for name in TOTALS] + [end_of(told, client) for client in columns.clients] + ends_of(told, columns, numbers) + ['']
 
 
 def shard_of(text):
@@ -181,6 +169,15 @@ class Sweep:
         self.first, self.last = whole * (part - 1) // parts, whole * part // parts
         self.all = enumerate(template.combinations(settings))
         self.head = [results.FIRST_COLUMN, *keys, 'status', *self.columns.names()]
+        self.settings = settings
+
+    def note(self):
+        """What is to be said of where packets went, by the first scenario."""
+        try:
+            told = Told(teller_of(self.program), self.made.with_values(next(template.combinations(self.settings))))
+            return told.note if told.status in PLAYED else ''
+        except command.Refusal:  # which its own line says
+            return ''
 
     def about(self):
         """The line above the head."""
@@ -210,7 +207,10 @@ def main():
     if found and not options.plot:
         raise command.Refusal(f'{options.template}: was written before; --plot X,Y draws it', command.WRONG_WORDS)
     if not options.plot:
-        return results.write(Sweep(options), options.out, options.resume)
+        sweep = Sweep(options)
+        if sweep.note():
+            command.tell(sweep.note())
+        return results.write(sweep, options.out, options.resume)
     made = None if found else Sweep(options)
     head, lines = found or (made.head, made.lines())
     picture = '\n'.join(plot.svg_of(head, list(lines), options.plot, os.path.basename(options.template))) + '\n'

@@ -1,16 +1,17 @@
 #!/usr/bin/env python3
 """Why didn't this packet arrive? What came of each event of a report, as a tree of causes.
 
-FILE is a report of `lab` or `nested`, which is read without the program, or a scenario, which is played first; `-` is standard
-input. Each entry of the wire stands below the record that made it, with where it ended and by which rule; `never delivered` is one
-that was lost.
+FILE is a scenario, which is played, or a report of `lab` or `nested`; `-` is standard input. Each entry of the wire stands below the
+record that made it, with where it ended and by which rule; `never delivered` is one that was lost. Where packets went is what `follow`
+says, and why one didn't come what `state` says that the nodes keep at that record. A report alone says neither: then there is what
+its lines say.
 
   trace FILE             the whole tree
   trace FILE --event N   what came of event N alone, and what its last fate means
-  trace FILE --packets   each packet that a host handed in, in one line: arrived, waits, or lost, where and why
+  trace FILE --packets   each packet that a host handed in, in one line: arrived, waits, is held, lies on the wire, or lost, where and why
 
-Of a scenario that the built program plays, a line of a packet that is lost or waits ends with the word that `reach` has of its two
-hosts before the event, where that says why: docs/REACH.md has the words.
+A line of a packet that didn't come ends with the word that `reach` has of its two hosts before the event, where the program is built,
+the scenario has few events and that says why: docs/REACH.md has the words.
 """
 import argparse
 import sys
@@ -19,27 +20,34 @@ sys.dont_write_bytecode = True
 
 import causes
 import command
+import ends
 import fates
 import matrix
-import travel
+from followed import HELD, LOST, WAITS, WIRE
 from matrix import Before
-from report import Entry, Record, Report, is_report
-from toml_places import scenario_events
-from travel import Travels
+from report import HANDED_IN, Entry, Record, is_report
+from told import Told, alone, teller_of
 
+UNTOLD = 'a report alone does not say where packets went: trace its scenario'
+UNKNOWN = 'this program does not say where packets went: it answers neither `follow` nor `state`'
 HEX_MAX = 16  # characters of an event's bytes that are shown
 
 
-def load(options: argparse.Namespace) -> tuple[Report, list[str], str | None]:
-    """The report, and where there is a scenario its events and its text."""
+def load(options: argparse.Namespace) -> Told:
+    """What is told of a report, or of a scenario, which is played first."""
     text = command.read(options.file)
     if is_report(text):
-        return Report(text), [], None
-    events = scenario_events(options.file, text)
-    status, written = command.play(options.program, text, options.chain, once=True)
-    if status not in (0, 8):
-        raise command.Refusal(f'{options.file}: {command.said(status, written)}')
-    return Report(written), events, text
+        return alone(text)
+    told = Told(teller_of(options.program), text, options.chain, path=options.file)
+    assert told.events is not None  # where it is no scenario, that is said first
+    told.must_play()
+    return told
+
+
+def tell_note(told: Told) -> None:
+    """Says where what is shown of packets isn't proved."""
+    if told.note:
+        command.tell(told.note)
 
 
 def short(event: str) -> str:
@@ -65,12 +73,12 @@ def outcome(record: Record) -> str:
 class Tree:
     """The lines below a record: each mark, below an entry its deliveries, and behind a drop its cause."""
 
-    def __init__(self, travels: Travels) -> None:
-        self.travels, self.report, self.lines = travels, travels.report, list[str]()
+    def __init__(self, told: Told) -> None:
+        self.told, self.report, self.lines = told, told.report, list[str]()
 
     def said(self, record: Record) -> str:
         has_cause = fates.is_drop(record.fate) and not record.gone
-        return outcome(record) + (': ' + causes.of_drop(self.travels, record) if has_cause else '')
+        return outcome(record) + (': ' + causes.of_drop(self.told, record) if has_cause else '')
 
     def add(self, record: Record, depth: int) -> None:
         for mark in record.marks:
@@ -93,30 +101,31 @@ def is_root(record: Record) -> bool:
     return record.delivered is None and record.fate != 'done' or record.act in ('restart', 'forget') or record.fate == 'no_entry'
 
 
-def tree_of(travels: Travels, record: Record, events: list[str]) -> list[str]:
-    tree = Tree(travels)
-    tree.lines.append(title(record, events) + tree.said(record))
+def tree_of(told: Told, record: Record) -> list[str]:
+    tree = Tree(told)
+    tree.lines.append(title(record, told.events) + tree.said(record))
     tree.add(record, 1)
     return tree.lines
 
 
-def word_before(travels: Travels, record: Record, before: Before | None) -> str | None:
+def word_before(told: Told, record: Record, end: ends.End, before: Before | None) -> str | None:
     """The word of a packet's two hosts before its event, where it says why the packet didn't come, or None."""
-    state = travels.end_of_event(record).state
-    if before is None or state not in (travel.LOST, travel.WAITS) or record.event >= len(travels.targets):
+    target = told.target(record)
+    if before is None or target is None or end.state not in (LOST, WAITS, HELD, WIRE):
         return None
-    return before.reason(record.event, record.node, travels.targets[record.event], state == travel.LOST)
+    return before.reason(record.event, record.node, target, end.state == LOST)
 
 
-def end_text(travels: Travels, record: Record, before: Before | None = None) -> str:
+def end_text(told: Told, record: Record, before: Before | None = None, end: ends.End | None = None) -> str:
     """What became of a packet, and such a word."""
-    word = word_before(travels, record, before)
-    return f'{travels.end_of_event(record)}' + (f'; reach before it: {word}' if word else '')
+    end = end or ends.end_of(told, record)
+    word = word_before(told, record, end, before)
+    return f'{end}' + (f'; reach before it: {word}' if word else '')
 
 
-def packet_line(travels: Travels, record: Record, events: list[str], before: Before | None = None) -> str:
-    said = short(events[record.event]) if record.event < len(events) else f'{record.act} {record.node}'
-    return f'{record.moment:,} ms, event {record.event}, {said}: {end_text(travels, record, before)}'
+def packet_line(told: Told, record: Record, before: Before | None = None, end: ends.End | None = None) -> str:
+    said = short(told.events[record.event]) if record.event < len(told.events) else f'{record.act} {record.node}'
+    return f'{record.moment:,} ms, event {record.event}, {said}: {end_text(told, record, before, end)}'
 
 
 def explained(word: str) -> list[str]:
@@ -129,17 +138,26 @@ def explained(word: str) -> list[str]:
     return lines + ([f'  look next: {fate.look}'] if fate.look else [])
 
 
-def event_lines(travels: Travels, number: int, events: list[str], before: Before | None = None) -> list[str]:
-    records = [record for record in travels.report.records if record.event == number]
+def event_lines(told: Told, number: int, before: Before | None = None) -> list[str]:
+    records = [record for record in told.report.records if record.event == number]
     if not records:
         raise command.Refusal(f'there is no event {number} in this report', command.WRONG_WORDS)
-    lines = [line for record in records for line in tree_of(travels, record, events)]
+    lines = [line for record in records for line in tree_of(told, record)]
     last = records[-1]
-    if travel.text_of(travels, last) is None:
+    if last.act not in HANDED_IN:
         return lines + explained(last.fate)
-    word = word_before(travels, last, before)
+    end = ends.end_of(told, last)
+    word = word_before(told, last, end, before)
     meaning = [f'{word}, of reach: {matrix.told().get(word)}'] if word else []
-    return lines + ['', end_text(travels, last, before)] + explained(travels.end_of_event(last).record.fate) + meaning
+    return lines + ['', end_text(told, last, before)] + explained(end.record.fate) + meaning
+
+
+def packet_lines(told: Told, before: Before | None) -> list[str]:
+    """A line for each packet that a host handed in."""
+    if not told.handed_in:
+        return ['no host handed in a packet']
+    lines = [packet_line(told, record, before) for record in told.handed_in]
+    return lines + ([UNTOLD if told.text is None else UNKNOWN] if told.followed is None else [])
 
 
 def options_of(words: list[str]) -> argparse.Namespace:
@@ -153,17 +171,18 @@ def options_of(words: list[str]) -> argparse.Namespace:
 def main() -> int:
     options = options_of(sys.argv[1:])
     command.tell_fates()
-    report, events, text = load(options)
-    travels = travel.Travels(report, travel.targets_of(events))
-    before = matrix.Before(options.program, text, options.chain) if text is not None else None
+    told = load(options)
+    is_asked = told.text is not None and len(told.events) <= matrix.EVENTS_MAX
+    before = matrix.Before(options.program, told.text, options.chain) if is_asked and told.text is not None else None
     if options.packets:
-        lines = [packet_line(travels, record, events, before) for record in report.records if record.act in travel.HANDED_IN] \
-            or ['no host handed in a packet']
+        lines = packet_lines(told, before)
     elif options.event is not None:
-        lines = event_lines(travels, options.event, events, before)
+        lines = event_lines(told, options.event, before)
     else:
-        lines = [line for record in report.records if is_root(record) for line in tree_of(travels, record, events)]
+        told.kept  # by which entries are named that let go what waited
+        lines = [line for record in told.report.records if is_root(record) for line in tree_of(told, record)]
     command.show(lines)
+    tell_note(told)
     return 0
 
 

@@ -6,20 +6,22 @@ import bisect
 
 import causes
 import chains
+import ends
 import fates
 import ladder_svg
 import lint
 import matrix
-import moments
 import rulebook
 import toml_places
-import topology
 import trace
-import travel
+from followed import LOST
+from kept import Client, Lets, Peer, Port, Void
 from ladder import Ladder
-from report import Report
+from report import HANDED_IN
+from told import Told
 
 RECORDS_MAX = 2000  # that a page shows at once
+PACKETS_MAX = 500  # of hosts, that a page shows at once
 NAT_KINDS = {'cone': 'full cone', 'restricted': 'restricted cone', 'port': 'port restricted cone', 'symmetric': 'symmetric'}
 SAID = {5: 'the report could not be written', 7: 'not enough memory'}
 
@@ -47,37 +49,61 @@ def about(node, known):
     return f'relay, {table["at"]}, {table["six"]}' if kind == 'relay' else f'IPv6 host, {table["six"]}, behind {table["relay"]}'
 
 
+def said_of(node, what):
+    """What `state` says of a node, as a list that the page's script reads."""
+    if isinstance(what, Void):
+        return [node, 'void'] if what.inside is None else [node, 'forget', what.inside]
+    if isinstance(what, Port):
+        return [node, 'port', what.number, what.inside, what.toward, what.until]
+    if isinstance(what, Lets):
+        return [node, 'lets', what.number, what.source, what.until]
+    if isinstance(what, Peer):
+        return [node, 'peer', what.address, what.at, what.heard, what.touched, what.tries, what.waits, what.held]
+    return [node, 'own', what.phase, what.address, what.due] if isinstance(what, Client) else [node, 'own', None, None, what.due]
+
+
 class View:
     """A scenario that was played."""
 
-    def __init__(self, text, status, written, name, first=0, event=None):
-        self.text, self.status, self.name = text, status, name
-        self.report = Report(written)
-        self.known = topology.topology_of(text)
-        top = toml_places.read(text)
-        self.events = [event for event in top.value['events'].value]
-        self.travels = travel.Travels(self.report, travel.targets_of([event.value for event in self.events]))
+    def __init__(self, told, name, first=0, event=None):
+        self.told, self.text, self.name, self.report, self.known = told, told.text, name, told.report, told.known
+        told.kept  # by which entries are named that let go what waited
+        self.places = toml_places.read(told.text).value['events'].value
         self.first = max(0, min(self.window_of(event) if event is not None else first, len(self.report.records) - 1))
-        self.handed_in = [(record, self.travels.end_of_event(record)) for record in self.report.records if record.act in travel.HANDED_IN]
+        self.records = self.report.records[self.first:self.first + RECORDS_MAX]
+        self.handed_in = told.handed_in if len(told.handed_in) <= PACKETS_MAX else [record for record in self.records if record.act in HANDED_IN][:PACKETS_MAX]
+        self.shown = {record.index: ends.end_of(told, record) for record in self.handed_in}
         self.ends = {}
-        for record, end in self.handed_in:
+        for record in self.handed_in:
+            end = self.shown[record.index]
             if end.reason:
                 self.ends.setdefault(end.record.index, {}).setdefault(end.reason, []).append(record.event)
-        self.records = self.report.records[self.first:self.first + RECORDS_MAX]
         self.ladder = Ladder(self.report, self.first, self.first + RECORDS_MAX - 1, (), self.known)
 
     def whole(self):
-        patches = moments.Moments(self.travels, self.known, [event.value for event in self.events]).patches
-        last = self.first + len(self.records)
         return {
-            'status': self.status, 'name': self.name, 'chain': chains.chain_of(self.text), 'totals': self.report.totals,
+            'status': self.told.status, 'name': self.name, 'chain': self.told.chain, 'totals': self.report.totals, 'note': self.told.note,
             'first': self.first, 'opening': self.opening(), 'count': len(self.report.records), 'most': RECORDS_MAX,
             'nodes': [{'name': node, 'kind': kind, 'about': about(node, self.known)} for node, kind in self.known.kinds.items()],
             'records': [self.record(record) for record in self.records], 'lines': self.lines(), 'rules': self.rules(),
             'pictures': [self.picture(False), self.picture(True)], 'rows': [row.record for row in self.ladder.rows],
             'carried': [row.entry for row in self.ladder.rows],
             'steps': self.steps(), 'columns': self.columns(), 'row': [ladder_svg.row_at(0), ladder_svg.ROW],
-            'base': moments.states_at(patches, self.first), 'patches': patches[self.first:last], 'packets': self.packets()}
+            **self.kept(), 'packets': self.packets(), 'packets_in_all': len(self.told.handed_in)}
+
+    def kept(self):
+        """What each node keeps where the records begin, and what `state` says of each of these; whose addresses and endpoints inside are."""
+        kept = self.told.kept
+        if kept is None:
+            return {'has_state': False, 'base': [], 'patches': [[] for _ in self.records], 'names': {}, 'insides': {}}
+        count = kept.before(self.first)
+        now = self.records[0].moment if self.records else 0
+        names = {what.address: line.node for line in kept.lines for what in [line.what] if isinstance(what, Client) and what.address}
+        names |= {address: name for name, address in self.told.fixed.items()}
+        patches = [[said_of(line.node, line.what) for line in kept.of_record(record.index)] for record in self.records]
+        insides = {f'{nat} {port.inside}' for nat in self.known.of('nat') for line in kept.lines for port in [line.what] if line.node == nat and isinstance(port, Port)}
+        return {'has_state': True, 'base': [said_of(node, what) for node, what in kept.state(count, now)], 'patches': patches, 'names': names,
+                'insides': {inside: causes.whose(self.told, *inside.split(' ')) for inside in sorted(insides)}}
 
     def window_of(self, event):
         """Where the records begin that are shown with the first one of an event, or of one behind it."""
@@ -113,11 +139,13 @@ class View:
         if entry is not None:
             said['way'] = self.way(entry, record)
         why = self.reasons(record)
+        if record.fate == 'barred' and self.told.kept is not None:
+            said['barred'] = causes.peer_about(self.told, self.told.kept, record)[0]
         return said | ({'why': why} if why else {})
 
     def reasons(self, record):
         """Why what a record is about came no further: what was dropped, what wasn't sent, and each packet of a host that ends here."""
-        found = [causes.of_drop(self.travels, record)] if fates.is_drop(record.fate) and not record.gone else []
+        found = [causes.of_drop(self.told, record)] if fates.is_drop(record.fate) and not record.gone else []
         found += [f'!{loss.word}: {causes.of_loss(loss)}' for loss in record.losses]
         ended = [(reason, events) for reason, events in self.ends.get(record.index, {}).items() if reason not in ' '.join(found)]
         return found + [f'the packet{"s" * (len(events) > 1)} of event{"s" * (len(events) > 1)} {", ".join(map(str, events))}: {reason}' for reason, events in ended]
@@ -131,19 +159,18 @@ class View:
         """From each event of these records to its line in the text."""
         breaks = [at for at, letter in enumerate(self.text) if letter == '\n']
         numbers = sorted({record.event for record in self.records})
-        return {number: bisect.bisect_left(breaks, self.events[number].start) + 1 for number in numbers if number < len(self.events)}
+        return {number: bisect.bisect_left(breaks, self.places[number].start) + 1 for number in numbers if number < len(self.places)}
 
     def packets(self):
-        events = [event.value for event in self.events]
-        return [{'record': record.index, 'said': trace.packet_line(self.travels, record, events), 'state': end.state, 'end': end.record.index}
-                for record, end in self.handed_in]
+        return [{'record': record.index, 'said': trace.packet_line(self.told, record, end=self.shown[record.index]), 'state': self.shown[record.index].state,
+                 'end': self.shown[record.index].record.index} for record in self.handed_in]
 
     def opening(self):
         """The record that matters first: where the first packet ended that was lost, else where the first one was handed in, else the first
         drop. One that isn't shown here is passed over."""
-        lost = [end.record.index for _, end in self.handed_in if end.state == travel.LOST]
+        lost = [end.record.index for end in self.shown.values() if end.state == LOST]
         drops = (record.index for record in self.records if fates.is_drop(record.fate))
-        known = (at - self.first for at in [*lost[:1], *(record.index for record, _ in self.handed_in[:1]), *drops])
+        known = (at - self.first for at in [*lost[:1], *(record.index for record in self.handed_in[:1]), *drops])
         return next((at for at in known if 0 <= at < len(self.records)), 0)
 
 
@@ -156,13 +183,14 @@ def reached(lines):
             'total': lines[-1]}
 
 
-def view_of(player, text, name='scenario.toml', first=0, event=None):
+def view_of(playing, text, name='scenario.toml', first=0, event=None):
     """What there is to be shown of a scenario's text: the records from one on, or those around an event."""
-    status, written = player.play(text)
+    told = Told(playing, text)
+    status, written = told.played
     if status in (3, 12):
         return {'status': status, 'name': name, 'faults': faults_of(status, text, written.strip())}
     if status not in (0, 8):
         return {'status': status, 'name': name, 'faults': [{'said': written.strip() or SAID.get(status, f'status {status}'), 'line': None,
                                                             'wanted': 'a scenario that can be played'}]}
-    shown = View(text, status, written, name, first, event).whole()
-    return shown | {'reach': reached(player.reach(text) if status == 0 else None)}
+    shown = View(told, name, first, event).whole()
+    return shown | {'reach': reached(playing.reach(text) if status == 0 else None)}

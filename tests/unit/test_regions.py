@@ -1,9 +1,10 @@
-"""The parts of pages that are made of examples, and of the table of fates."""
+"""The parts of pages that are made of examples, of the table of fates, and of stored tables."""
 import os
 import tempfile
 import unittest
 
 import regions
+import stored_tables
 
 PAGE = """# Examples
 
@@ -49,6 +50,11 @@ class Examples(unittest.TestCase):
         made = regions.renewed(self.top, PAGE.format(folder='examples/chains'))
         self.assertIn('\n| chain | shows | look at |\n|---|---|---|\n| `one` | One | `a` |\n<!-- so far -->', made)
 
+    def test_a_scenario_as_it_stands(self):
+        self.put('examples/scenarios/one.toml', '# One.\nseed = 1\n')
+        self.assertEqual(regions.made(self.top, 'examples/scenarios/one.toml'), '```toml\n# One.\nseed = 1\n```\n')
+        self.assertIsNone(regions.made(self.top, 'examples/scenarios/two.toml'))
+
 
 class Fates(unittest.TestCase):
     TABLE = '# A head.\n`advert` | S | answered | | whether it gets in\n**`big`** | S, C | too big | a host | its length\n**`off`** | C | not qualified | | `a`\n**`kind`** | S | no bubble | data | who\n'
@@ -60,6 +66,25 @@ class Fates(unittest.TestCase):
 
     def test_all_of_them(self):
         self.assertIn('\n| `advert` | S | answered | | whether it gets in |\n', regions.fates(self.TABLE))
+
+
+class Stored(unittest.TestCase):
+    TEXT = ('client  fates\ncone    six\n\nto h1, without      comes   left  fates\na lists 255 others  no         0  queued six\nit is lost: all     no         1  -\n\n'
+            'from h1, without    comes   left  fates\na lists 255 others  no         0  sent_six\nit is a reply       no         0  big\n\n'
+            'to h1, with the cone bit  comes   left  fates\na lists 255 others  yes        0  kept\n')
+
+    def test_a_table_as_it_stands(self):
+        self.assertEqual(stored_tables.made(self.TEXT, '1'), '```text\nclient  fates\ncone    six\n```\n')
+        self.assertIsNone(stored_tables.made(self.TEXT, '5'))
+        self.assertIsNone(stored_tables.made(self.TEXT, ''))
+
+    def test_what_keeps_a_packet_away(self):
+        self.assertEqual(stored_tables.made(self.TEXT, 'without').splitlines()[2:], [
+            '| 1 | a lists 255 others | `queued`, `six` | `sent_six` |', '| 2 | it is lost: all | nothing is delivered | - |', '| 3 | it is a reply | - | `big` |'])
+
+    def test_what_breaks_a_premise(self):
+        text = 'bubble  fates\nfirst   rule3\n\nwithout      arrives   left  fates\na has tried  no           0  -\nthey are one  no          1  nat_closed advert\n'
+        self.assertEqual(stored_tables.made(text, 'broken'), '1. a has tried (nothing is delivered)\n2. they are one (`nat_closed`, `advert`)\n')
 
 
 if __name__ == '__main__':

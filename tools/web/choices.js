@@ -199,6 +199,14 @@ function showFound(found) {
   }
 }
 
+// What is to be said of who played, and of where packets went.
+function tellNote() {
+  if (data.isForeign) return;
+  const said = [data.note, state.view && state.view.note].filter(Boolean);
+  get('note').textContent = said.join('; ');
+  get('note').hidden = !said.length;
+}
+
 function offerFiles() {
   const missing = { page: true, capture: !data.capture, report: data.report === undefined, picture: data.report === undefined && !data.isForeign };
   for (const what of Object.keys(FILES)) document.querySelector(`[data-save=${what}]`).hidden = Boolean(missing[what]);
@@ -206,8 +214,7 @@ function offerFiles() {
 
 async function start() {
   listen();
-  get('note').textContent = data.note || '';
-  get('note').hidden = !data.note;
+  tellNote();
   if (!data.is_alone) {
     fillGallery();
     get('two-hosts').append(hostFields('a'), hostFields('b'));

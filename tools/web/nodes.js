@@ -1,51 +1,60 @@
 // What each node knows at a record, the packets, and who reaches whom at the end.
 
-// What the nodes know: the patches of tools/moments.py, up to this record.
+// What the nodes keep: the lines of `state`, up to this record. A later one takes the place of an earlier one of the same thing.
 
 function statesNow() {
-  const { view, at } = state, found = structuredClone(view.base);
-  for (const patches of view.patches.slice(0, at + 1)) {
-    for (const [node, patch] of Object.entries(patches)) apply(found[node] ||= {}, patch);
-  }
+  const { view, at } = state, found = {};
+  for (const line of [...view.base, ...view.patches.slice(0, at + 1).flat()]) apply(found[line[0]] ||= { ports: {}, lets: {}, peers: {} }, line);
   return found;
 }
 
-function apply(known, patch) {
-  known.mappings ||= {};
-  known.peers ||= {};
-  for (const [number, client, port, until, peer] of patch.put || []) {
-    const mapping = known.mappings[number] ||= { client, port, peers: {} };
-    mapping.until = mapping.peers[peer] = until;
+function apply(known, [, what, ...words]) {
+  if (what === 'void') {
+    Object.assign(known, { ports: {}, lets: {}, peers: {} });
+  } else if (what === 'forget') {
+    for (const [number, port] of Object.entries(known.ports)) if (port.inside === words[0]) drop(known, number);
+  } else if (what === 'port') {
+    const [number, inside, toward, until] = words, before = known.ports[number];
+    if (before && before.inside !== inside) drop(known, number);
+    known.ports[number] = { inside, toward, until };
+  } else if (what === 'lets') {
+    (known.lets[words[0]] ||= {})[words[1]] = words[2];
+  } else if (what === 'peer') {
+    const [address, at, heard, touched, tries, waits, held] = words;
+    known.peers[address] = { at, heard, touched, tries, waits, held };
+  } else {
+    [known.phase, known.address, known.due] = words;
   }
-  for (const number of patch.drop || []) delete known.mappings[number];
-  if (patch.reset) known.peers = {};
-  Object.assign(known.peers, patch.peers);
-  for (const key of ['phase', 'address']) if (key in patch) known[key] = patch[key];
+}
+
+function drop(known, number) {
+  delete known.ports[number];
+  delete known.lets[number];
 }
 
 // The nodes of a record's way first, then clients, NATs and the others; what this record changed is marked.
 function drawNodes(record) {
-  const states = record ? statesNow() : {}, changes = record && state.view.patches[state.at] || {};
+  const states = record ? statesNow() : {}, changes = record ? state.view.patches[state.at] || [] : [];
   const kinds = ['client', 'nat', 'server', 'relay', 'native'], way = record ? [record.node, ...(record.way || [])] : [];
   const rank = (node) => (way.includes(node.name) ? 0 : 10) + kinds.indexOf(node.kind);
   const nodes = state.view ? [...state.view.nodes].sort((one, other) => rank(one) - rank(other)) : [];
   get('nodes').replaceChildren(...nodes.map((node) => {
     const card = make('div', 'card', make('h3', '', node.name), make('p', 'hint', node.about));
     card.classList.toggle('now', way.includes(node.name));
-    if (record) card.append(...knownOf(node, states[node.name] || {}, record.moment, changes[node.name] || {}));
+    if (record) card.append(...knownOf(node, states[node.name] || { ports: {}, lets: {}, peers: {}, due: null }, record, changes.filter(([name]) => name === node.name)));
     return card;
   }));
 }
 
-function knownOf(node, known, now, change) {
-  if (node.kind === 'nat') return [mappingsOf(known, now, change)];
-  if (node.kind === 'client') {
-    const phase = make('p', '', known.phase ? `phase ${known.phase}` : 'asked nobody yet', marked('phase' in change));
-    const address = known.address ? make('p', 'good', make('code', '', known.address)) : make('p', '', 'no address');
-    address.append(...[marked('address' in change)].filter(Boolean));
-    return [phase, address, peersOf(known, now, change)];
-  }
-  return node.kind === 'relay' ? [peersOf(known, now, change)] : [];
+function knownOf(node, known, record, changes) {
+  if (!['nat', 'client', 'relay'].includes(node.kind)) return [];
+  if (!state.view.has_state) return [make('p', 'hint', 'what it keeps isn\'t told: this program doesn\'t answer state')];
+  if (node.kind === 'nat') return [portsOf(node.name, known, record.moment, changes)];
+  const isChanged = changes.some(([, what]) => what === 'own' || what === 'void');
+  if (node.kind === 'relay') return [peersOf(node.name, known, record, changes)];
+  const phase = make('p', '', `phase ${known.phase}${known.due === null ? '' : `, due at ${ms(known.due)}`}`, marked(isChanged));
+  const address = known.address ? make('p', 'good', make('code', '', known.address)) : make('p', '', 'no address');
+  return [phase, address, peersOf(node.name, known, record, changes)];
 }
 
 const marked = (isChanged) => (isChanged ? make('b', 'changed', 'now') : null);
@@ -58,45 +67,47 @@ function listOf(lines, none) {
   return make('ul', '', ...shown, lines.length > PEERS_SHOWN ? make('li', '', `and ${lines.length - PEERS_SHOWN} more`) : null);
 }
 
-function mappingsOf(known, now, change) {
-  const live = Object.entries(known.mappings || {}).filter(([, mapping]) => mapping.until > now), put = (change.put || []).map(([number]) => String(number));
-  return listOf(live.map(([number, mapping]) => {
-    const port = mapping.port ? `port ${mapping.port}` : 'a port that the report doesn\'t tell';
-    return [`${mapping.client}: ${port}, lets in ${whoUntil(mapping.peers, now)}`, put.includes(number)];
-  }), 'no live mapping: nobody gets in');
+function portsOf(name, known, now, changes) {
+  const live = Object.entries(known.ports).filter(([, port]) => port.until > now), kind = (state.view.nodes.find((node) => node.name === name) || {}).about || '';
+  return listOf(live.map(([number, port]) => {
+    const lets = whoUntil(known.lets[number] || {}, now), isCone = kind.startsWith('full cone');
+    const whom = port.toward ? `toward ${port.toward} alone` : isCone ? 'lets in anyone' : `lets in ${lets || 'nobody'}`;
+    const whose = state.view.insides[`${name} ${port.inside}`] || port.inside;
+    return [`${whose}: port ${number} until ${ms(port.until)}, ${whom}`, changes.some(([, , one]) => String(one) === number)];
+  }), 'no live port: nobody gets in');
 }
 
-// Whom a mapping lets in, those together who may come in equally long.
-function whoUntil(peers, now) {
+// Whom a port lets in, those together who may come in equally long.
+function whoUntil(lets, now) {
   const groups = new Map();
-  for (const [peer, until] of Object.entries(peers)) if (until > now) groups.set(until, [...(groups.get(until) || []), peer]);
+  for (const [source, until] of Object.entries(lets)) if (until > now) groups.set(until, [...(groups.get(until) || []), source]);
   return [...groups].map(([until, names]) => {
     const more = names.length > PEERS_SHOWN ? ` and ${names.length - PEERS_SHOWN} more` : '';
     return `${names.slice(0, PEERS_SHOWN).join(', ')}${more} until ${ms(until)}`;
   }).join('; ');
 }
 
-function peersOf(known, now, change) {
-  const lines = Object.entries(known.peers || {}).map(([name, peer]) => [peerText(name, peer, now), name in (change.peers || {})]);
+function peersOf(node, known, record, changes) {
+  const touched = changes.filter(([, what]) => what === 'peer').map(([, , address]) => address);
+  const barred = record.node === node ? record.barred : undefined;
+  const lines = Object.entries(known.peers).map(([address, peer]) => [peerText(address, peer, record.moment, barred), touched.includes(address)]);
   return listOf(lines.filter(([text]) => text), 'knows no peer');
 }
 
-function peerText(name, peer, now) {
-  const isListed = peer.touched !== null && now - peer.touched < PEERS.listed;
-  const words = [];
-  if (isListed && peer.at) {
+function peerText(address, peer, now, barred) {
+  if (now - peer.touched >= PEERS.listed) return null;
+  const words = [], name = state.view.names[address] || address;
+  if (peer.at) {
     const isFresh = peer.heard !== null && now - peer.heard < PEERS.fresh;
     words.push(`trusted at ${peer.at}, ${isFresh ? `fresh until ${ms(peer.heard + PEERS.fresh)}` : 'no longer fresh'}`);
   }
-  const tries = peer.tries.filter((moment) => now - moment < PEERS.listed);
-  if (isListed && tries.length) {
-    const isBarred = tries.length >= PEERS.tries || now - tries[tries.length - 1] < PEERS.gap;
-    words.push(`${tries.length === 1 ? '1 try' : `${tries.length} tries`}${isBarred ? ', barred now' : ''}`);
-  }
+  const tries = peer.tries.filter((moment) => now - moment < PEERS.listed), isYoung = tries.length > 0 && now - tries[tries.length - 1] < PEERS.gap;
+  const young = isYoung ? `, the latest less than ${ms(PEERS.gap)} ago` : '';
+  if (tries.length) words.push(`${tries.length === 1 ? '1 try' : `${tries.length} tries`}${young}`);
+  if (barred !== undefined && barred === name) words.push('barred now');
   if (peer.waits) words.push(`${peer.waits} ${peer.waits === 1 ? 'packet waits' : 'packets wait'} for it`);
   if (peer.held) words.push(`${peer.held} of its packets held`);
-  if (!words.length) return isListed ? `${name}: listed` : null;
-  return `${name}: ${words.join('; ')}`;
+  return words.length ? `${name}: ${words.join('; ')}` : `${name}: listed`;
 }
 
 // Packets, and who reaches whom.
@@ -108,7 +119,7 @@ function listPackets() {
     const made = make('li', '', button(packet.said, () => leadTo(packet.record), packet.state));
     if (packet.end !== packet.record) made.append(' ', button(`its end: record ${packet.end}`, () => leadTo(packet.end)));
     return made;
-  }));
+  }), ...(view.packets_in_all > view.packets.length ? [make('li', 'hint', `${view.packets.length} of ${view.packets_in_all} packets: those of these records`)] : []));
 }
 
 // Leads to a record by its number, also to one that isn't among those that are shown.

@@ -70,6 +70,7 @@ function show(view, goTo) {
   drawPicture();
   drawSteps();
   listPackets();
+  tellNote();
   drawMatrix();
   showWindow();
   const last = view.records.length - 1;
