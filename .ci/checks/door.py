@@ -132,11 +132,16 @@ def faults_of_trials(folder, path):
         got = answer(folder, path, words, **env)
         if got[0] != 125 or got[1] or './teredo build' not in got[2]:
             found.append(f'./teredo {words} {env}, nothing built: {got}')
-    got = answer(folder, path, ['trace', path_of('cone_client')])
+    own = os.path.join(folder, 'own.toml')
+    command.write(own, command.read(path_of('cone_client')) + '# my own\n')
+    got = answer(folder, path, ['trace', own])
     if got[0] != 1 or 'NOTHING OF THIS ANSWER IS PROVED' not in got[2] or 'a line' not in got[2]:
         found.append(f'a tool over an unproved answer: {got}')
+    got = answer(folder, path, ['trace', path_of('two_homes'), '--packets'])
+    if got[0] or 'lost at a, give_up' not in got[1] or 'NOTHING OF THIS ANSWER IS PROVED' in got[2]:
+        found.append(f'an example, nothing built: {got}')
     put_rt(folder, RT_TRIES_SLOWLY)
-    for words in (played, ['trace', path_of('cone_client')]):
+    for words in (played, ['trace', own]):
         shown = on_terminal([f'{folder}/teredo', *words], {'PATH': path, 'TMPDIR': folder, 'TERM': 'xterm'})
         if not re.search(r'\rteredo: [1-9]\d* s so far', shown) or subprocess.run(['pgrep', '-f', f'{folder}/teredo'], stdout=subprocess.DEVNULL).returncode == 0:
             found.append(f'a slow trial on a terminal: {shown!r}')

@@ -34,7 +34,7 @@ HOSTILE = (
     LINE + b'1 0 0 copy:1 - put #1=1.2.3.4:5>1.2.3.4:6/10\ntotal records 2\n', LINE * 2 + b'wire full\n', b'0 0 0 tick a nat_closed\nwire full\n',
     b'0 0 0 tick a same is nothing handed/x late/\nwire full\n', b'0 0 0 deliver:x a b\n', b'0 0 0 deliver:' + b'9' * 9000 + b' a b\nwire full\n',
     b'9' * 9000 + b' 0 0 tick a rs_cone\n')
-HOSTILE_TOOLS = (['trace'], ['trace', '--packets'], ['trace', '--event', '0'], ['flow'], ['flow', '--svg', '--ends'], ['flow', '--narrow'], ['lint'],
+HOSTILE_TOOLS = (['trace'], ['trace', '--packets'], ['trace', '--event', '0'], ['follow'], ['state'], ['flow'], ['flow', '--svg', '--ends'], ['flow', '--narrow'], ['lint'],
                  ['play'], ['check'],
                  ['explore', '--jobs', '1'], ['sweep', '--seeds', '1..2', '--jobs', '1'], ['sweep', '--plot', 'number,seed'], ['page'])
 

@@ -6,6 +6,8 @@ SOURCE is
 - docs/parts/fates.txt, whose rows have the cells of the table of fates with ` | ` between them, with `#S` those of a server;
 - the schema of scenarios, whose keys it is, with `#events` its events;
 - docs/COMMANDS.md itself, whose sections have the statuses;
+- a file of tests/stored/, of which stored_tables.py makes a table;
+- a scenario of an example, as it stands;
 - a folder of examples, each with the first sentence of its first comment, and with what that has behind `RFC 4380: ` and `Look at: `.
 
 Which examples, or fates of a node, and in which order, is said by the names in the table's first column: a new one is a row with its
@@ -17,6 +19,7 @@ import re
 
 import keys
 import statuses
+import stored_tables
 
 BEGIN, END = '<!-- made by .ci/pages --write of {source} -->', '<!-- so far -->'
 REGION = re.compile(r'(<!-- made by \.ci/pages --write of (\S+) -->\n)(.*?)(<!-- so far -->)', re.S)
@@ -114,11 +117,15 @@ def made(top, source, old=''):
         return examples(top, source, old)
     if source == CRATES:
         return crates(top)
+    if os.path.dirname(source) in EXAMPLES and source.endswith('.toml') and os.path.exists(os.path.join(top, source)):
+        return f'```toml\n{read(top, source)}```\n'
     path, _, part = source.partition('#')
     if path == SCHEMA:
         return keys.made(read(top, path), part)
     if path == COMMANDS:
         return statuses.made(read(top, path))
+    if path.startswith(stored_tables.FOLDER) and os.path.exists(os.path.join(top, path)):
+        return stored_tables.made(read(top, path), part)
     if path == FATES and part:
         return fates_of(read(top, path), part, old)
     if source == FATES:

@@ -1,8 +1,9 @@
 """Tools over a report, on each example.
 
-- trace: tests/stored/causes.txt has what became of packets, by scenario and event, as read from the reports by hand; the
-  scenario and its report alone must give the same. So has it the words of `reach` that say why. A tree has each entry once, and
-  each delivery. The times that a cause names are those of docs/RULES.md and of the code.
+- trace: tests/stored/causes.txt has what became of packets, by scenario and event, as read by hand from the reports and from what
+  `state` says; what is stored of the examples gives the same, and so does the program. A report alone says of no packet where it went.
+  So has it the words of `reach` that say why. A tree has each entry once, and each delivery. The three numbers of tools/kept.py are the
+  code's.
 - flow: a ladder has a row for each record but the ends of `advance`, and for each entry that was lost; a picture is XML
   with an arrowhead or a cut for each arrow, and has no script. The pictures of docs/GUIDE.md are made anew. The narrow form
   keeps to its 80 columns, and at a terminal all forms to its own; each NAT of a way is a column. The ports at the ends are those of the entries, an unknown name and an empty range are refused,
@@ -17,24 +18,30 @@ import re
 from xml.etree import ElementTree
 
 import capture
-import peer_times
 import command
+import ends
 import flow
+import follow
+import followed
+import following
 import generated
 import json_lines
+import kept
 import ladder_svg
 import ladder_text
 import matrix
-import moments
+import player
 import report
+import state
+import told
 import topology
 import trace
-import travel
 import web
+from followed import ARRIVED
 from ladder import LEFT_OUT, Ladder
+from player import STDIN
 from stored import SVG, TOP, names, path_of, report_of, run
 from tally import skip
-from toml_places import scenario_events
 
 PICTURES = os.path.join(TOP, 'docs', 'pictures')
 WIDTHS = (40, 60, 79, 80, 99, 120, 131, 200)  # of terminals; some of them are asked for ports
@@ -42,17 +49,27 @@ DRAWN = {'two_port_restricted': ['--from', '34', '--nodes', 'a,n1,s1,n2,b'],
          'failed_bubble': ['--from', '35', '--nodes', 'a,n1,s1,n2,b'],
          'client_to_native': ['--from', '19', '--to', '28', '--nodes', 'a,s1,r1,h1'],
          'two_carriers': ['--from', '20', '--to', '25', '--nodes', 'a,home1,carrier1,s1,carrier2,home2,b']}
+SEEDS, GENERATED = range(1, 13), 300  # of generated scenarios, and their events
 # A number of a tool, and the constant of the code that it has to be.
 NUMBERS = (
-    (peer_times.FRESH_MS, 'peer_list/src/limits.rt', 'FRESH_MS'), (peer_times.LISTED_MS, 'peer_list/src/limits.rt', 'LISTED_MS'),
-    (peer_times.TRY_GAP_MS, 'peer_list/src/limits.rt', 'TRY_GAP_MS'), (moments.TRIES_MAX, 'peer_list/src/limits.rt', 'TRIES_MAX'),
-    (web.TEXT_MAX, 'scenario/src/reader.rt', 'TEXT_MAX'), (capture.PIECE_BYTES, 'commands/src/audit_file.rt', 'CAPTURE_MAX'),
+    (kept.FRESH_MS, 'peer_list/src/limits.rt', 'FRESH_MS'), (kept.LISTED_MS, 'peer_list/src/limits.rt', 'LISTED_MS'),
+    (kept.TRY_GAP_MS, 'peer_list/src/limits.rt', 'TRY_GAP_MS'),
+    (web.TEXT_MAX, 'scenario/src/reader.rt', 'TEXT_MAX'), (capture.PIECE_BYTES, 'commands/src/capture_file.rt', 'CAPTURE_MAX'),
     (generated.COUNT_MAX, 'events/src/event.rt', 'EVENTS_MAX'))
 
 
-def travels_of(name, with_events):
-    events = scenario_events(path_of(name), command.read(path_of(name))) if with_events else []
-    return travel.Travels(report_of(name), travel.targets_of(events))
+def tellers(program):
+    """Who tells of the examples: what is stored of them, and the program, where it says what nodes keep."""
+    stored, built = player.Stored(), told.Program(program)
+    yield stored
+    if told.Told(built, command.read(path_of('cone_client'))).kept is not None:
+        yield built
+    else:
+        skip('why packets did not arrive, by the program', 'it does not answer `state`')
+
+
+def told_of(name, teller):
+    return told.Told(teller, command.read(path_of(name)))
 
 
 def cause_rows():
@@ -62,39 +79,69 @@ def cause_rows():
 
 
 def check_causes(program):
-    """Each row as the report alone gives it, and as the scenario does; and a row for each packet that didn't arrive."""
-    told, found = cause_rows(), []
+    """Each row as what is stored gives it, and as the program does; and a row for each packet that didn't arrive. A report alone says of none
+    where it went."""
+    due, found = cause_rows(), []
+    for teller in tellers(program):
+        said = {(name, record.event): ends.end_of(one, record) for name in names() for one in [told_of(name, teller)] for record in one.handed_in
+                if is_wanted(name, record)}
+        texts = {key: str(end) for key, end in said.items() if end.state != ARRIVED}
+        found += [f'{key}: {texts.get(key)}, and the row is {due.get(key)}' for key in sorted({*texts, *due}) if texts.get(key) != due.get(key)]
     for name in names():
-        for travels in (travels_of(name, True), travels_of(name, False)):
-            for record in travels.report.records:
-                text = travel.text_of(travels, record)
-                row = told.get((name, record.event))
-                if text is not None and row != text and (row is not None or is_wanted(name, record, text)):
-                    found.append(f'{name} {record.event}: {text}')
+        one = told.alone(command.read(path_of(name) + '.stdout'))
+        found += [f'{name} {record.event}, by the report alone: {ends.end_of(one, record)}' for record in one.handed_in
+                  if ends.end_of(one, record).state != ends.UNSAID]
     return found
+
+
+def is_wanted(name, record):
+    """Whether a packet has to have its row: it is none of the 256 that fill a list of peers."""
+    return name != 'full_peer_list' or record.fate != 'queued'
 
 
 def check_reach_words(program):
     """Each word of `reach` that says why a packet didn't come has its row, and no packet has another one; where nothing knows `reach`
     there is none."""
     due = set(re.findall(r'^(\w+) (\d+) (\w+)$', command.read(os.path.join(TOP, 'tests', 'stored', 'causes.txt')), re.M))
-    found = set()
+    found, stored = set(), player.Stored()
     for name in names():
-        travels, before = travels_of(name, True), matrix.Before(program, command.read(path_of(name)))
-        for record in travels.report.records:
-            said = re.search('; reach before it: (.*)$', trace.end_text(travels, record, before)) if record.act in travel.HANDED_IN else None
+        one, before = told_of(name, stored), matrix.Before(program, command.read(path_of(name)))
+        for record in one.handed_in:
+            said = re.search('; reach before it: (.*)$', trace.end_text(one, record, before))
             found |= {(name, str(record.event), said[1])} if said else set()
     return [f'{row} is {"not told of" if row in due else "without a row"}' for row in sorted(found ^ due)] + faults_without_reach()
 
 
 def faults_without_reach():
     """A packet that didn't come, where nothing is built, and where the program doesn't know `reach`."""
-    travels, text, found = travels_of('two_symmetric', True), command.read(path_of('two_symmetric')), []
-    packet = next(record for record in travels.report.records if record.act == 'host')
+    one, found = told_of('two_symmetric', player.Stored()), []
     for program in ('/nowhere', '/bin/false'):
-        said = trace.end_text(travels, packet, matrix.Before(program, text))
-        found += [] if said == str(travels.end_of_event(packet)) else [f'{program}: {said}']
+        said = trace.end_text(one, one.handed_in[0], matrix.Before(program, one.text))
+        found += [] if said == str(ends.end_of(one, one.handed_in[0])) else [f'{program}: {said}']
     return found
+
+
+def check_following(program):
+    """The lines of `follow`, made from a report and `state`, are those of the program, of each example and of generated scenarios; and what
+    the program says of each node is read whole."""
+    teller, found = told.Program(program), []
+    texts = {name: command.read(path_of(name)) for name in names()}
+    texts |= {f'generated {seed}': generated.scenario(seed, GENERATED) for seed in SEEDS}
+    for name, text in texts.items():
+        one = told.Told(teller, text)
+        if one.kept is None or one.followed is None or not one.followed.is_proved:
+            skip('where packets went, made and as the program says it', 'it does not answer `follow` and `state`')
+            break
+        made = following.following(one.report, one.kept).lines()
+        found += [f'{name}: {pair}' for pair in [pair for pair in zip(made, one.followed.lines()) if pair[0] != pair[1]][:1] or ['lengths']] if made != one.followed.lines() else []
+        if [f'{"-" if line.record < 0 else line.record} {line.moment} {line.node} {kept.text_of(line.what)}' for line in one.kept.lines] != stated(one):
+            found.append(f'{name}: the lines of state are not made again')
+    return found
+
+
+def stated(one):
+    """The lines of `state` as the program writes them, without the totals."""
+    return one.ask('state', STDIN, one.chain or '-', 'each')[1].splitlines()[:-1]
 
 
 def check_numbers(program):
@@ -107,23 +154,17 @@ def check_numbers(program):
     return found
 
 
-def is_wanted(name, record, text):
-    """Whether a packet has to have its row: it didn't arrive, and is none of the 256 that fill a list of peers."""
-    is_of_scan = name == 'full_peer_list' and record.fate == 'queued'
-    return record.act in travel.HANDED_IN and not text.startswith('arrived') and not is_of_scan
-
-
 def check_trees(program):
-    """Each entry and each delivery stands in a tree just once."""
-    found = []
+    """Each entry and each delivery stands in a tree just once, also by a report alone."""
+    found, stored = [], player.Stored()
     for name in names():
-        travels = travels_of(name, False)
-        lines = [line for record in travels.report.records if trace.is_root(record) for line in trace.tree_of(travels, record, [])]
-        entries = [int(line.split()[0][1:]) for line in lines if re.match(r' +#\d+ ', line)]
-        deliveries = [line for line in lines if re.match(r' {4,}[\d,]+ ms, ', line)]
-        known = sum(record.delivered in travels.report.entries for record in travels.report.records)
-        if sorted(entries) != sorted(travels.report.entries) or len(deliveries) != known:
-            found.append(f'{name}: the tree has {len(entries)} entries and {len(deliveries)} deliveries')
+        for one in (told_of(name, stored), told.alone(command.read(path_of(name) + '.stdout'))):
+            lines = [line for record in one.report.records if trace.is_root(record) for line in trace.tree_of(one, record)]
+            entries = [int(line.split()[0][1:]) for line in lines if re.match(r' +#\d+ ', line)]
+            deliveries = [line for line in lines if re.match(r' {4,}[\d,]+ ms, ', line)]
+            known = sum(record.delivered in one.report.entries for record in one.report.records)
+            if sorted(entries) != sorted(one.report.entries) or len(deliveries) != known:
+                found.append(f'{name}: the tree has {len(entries)} entries and {len(deliveries)} deliveries')
     return found
 
 
@@ -223,7 +264,29 @@ def check_forms(program):
         if status or len(rows) != len(told.records) or entries != len(told.entries) or [row['fate'] for row in rows] != [record.fate
                                                                                                                          for record in told.records]:
             found.append(f'{name}: the table has {len(rows)} rows and {entries} entries {said}')
-        found += faults_by_schema(name, lines)
+        found += faults_by_schema(name, 'report', lines)
+    return found + faults_of_told_forms()
+
+
+def faults_of_told_forms():
+    """`follow` and `state`: JSON that their schemas take, the lines of `follow` said again, and a table of each packet and each node."""
+    found, stored = [], player.Stored()
+    for name in names():
+        one = told_of(name, stored)
+        lines = follow.json_of(one.followed, None)
+        found += faults_by_schema(name, 'follow', lines)
+        if [line.get('mark', line.get('what')) for line in lines if 'what' in line] != [step.mark or step.word for step in one.followed.steps]:
+            found.append(f'{name}: follow says other steps')
+        found += [] if followed.followed_of('\n'.join(one.followed.lines())).lines() == one.followed.lines() else [f'{name}: the lines of follow are not read back']
+        for packet in range(len(one.handed_in))[:20]:
+            rows = follow.steps_of(one, one.followed, packet)
+            found += [] if len(rows) == 2 + sum(step.load.packet == packet for step in one.followed.steps) else [f'{name}: packet {packet} has {rows}']
+        for record in {-1, len(one.report.records) // 2, len(one.report.records) - 1} if name != 'full_peer_list' else ():
+            at = state.Moment(one, one.kept, record)
+            found += faults_by_schema(name, 'state', list(at.json([])))
+            shown = '\n'.join(line for node in at.nodes([]) for line in at.lines(node))
+            found += [f'{name}, record {record}: {what.number} is not told' for node in at.nodes([]) for what in at.whats(node)
+                      if isinstance(what, kept.Port) and f'port {what.number} ' not in shown]
     return found
 
 
@@ -247,11 +310,11 @@ def report_line(line):
     return ' '.join(map(str, words))
 
 
-def faults_by_schema(name, lines):
+def faults_by_schema(name, schema, lines):
     try:
         import jsonschema
     except ImportError:
         skip('what the schemas say', 'no jsonschema for this Python')
         return []
-    validator = jsonschema.Draft7Validator(json.loads(command.read(os.path.join(TOP, 'docs', 'report.schema.json'))))
+    validator = jsonschema.Draft7Validator(json.loads(command.read(os.path.join(TOP, 'docs', f'{schema}.schema.json'))))
     return [f'{name}: {fault.message[:200]}' for line in lines for fault in validator.iter_errors(line)]

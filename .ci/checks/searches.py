@@ -19,12 +19,12 @@ from xml.etree import ElementTree
 import chance
 import command
 import explore
-import report
 import sweep
 import template
+import told
 import toml_places
-import travel
 import workers
+from followed import ARRIVED
 from stored import SVG, TOP, of_tests, path_of, run
 from toml_places import scenario_events
 
@@ -48,23 +48,23 @@ def explored(program, text, *words):
     with tempfile.NamedTemporaryFile('w', suffix='.toml', encoding='utf-8') as file:
         file.write(text)
         file.flush()
-        task, event, targets, _ = explore.task_of(explore.options_of([file.name, '--program', program, *map(str, words)]))
+        task, event, _ = explore.task_of(explore.options_of([file.name, '--program', program, *map(str, words)]))
     with workers.Pool(2) as pool:
-        return explore.explored(task, event, targets, explore.MOST, pool, workers.Progress())[0], task, event, targets
+        return explore.explored(task, event, explore.MOST, pool, workers.Progress())[0], task, event
 
 
-def searched(task, targets, event):
+def searched(task, event):
     """Each schedule by its fates and whether the packet arrives, found one delivery after the other."""
     counts, fronts = collections.Counter(), [()]
     while fronts:
         front = fronts.pop()
-        told = task.play(list(front), False)
-        mine = [record for record in told.records if record.event >= event]
+        played = task.play(list(front), False)
+        mine = [record for record in played.report.records if record.event >= event]
         made = {entry.number for record in mine for entry in record.entries}
-        end = travel.Travels(told, targets).end_of_event(mine[0])
+        end = played.followed.by_record[mine[0].index].end
         left = made - set(front)
         if len(left) <= task.lose:
-            counts[tuple(record.fate for record in mine[1:]), end.state == travel.ARRIVED] += 1
+            counts[tuple(record.fate for record in mine[1:]), end.state == ARRIVED] += 1
         again = set(front) if len(front) - len(set(front)) < task.repeat else set()
         fronts += [front + (number,) for number in left | again]
     return counts
@@ -95,18 +95,18 @@ def check_explore(program):
     found = []
     for source, target, lose, repeat in SEARCHED:
         text, event = scenario_of_orders(source, target)
-        made, task, event, targets = explored(program, text, '--event', event, '--lose', lose, '--repeat', repeat)
-        if made.counts != searched(task, targets, event) or made.total != sum(made.counts.values()):
+        made, task, event = explored(program, text, '--event', event, '--lose', lose, '--repeat', repeat)
+        if made.counts != searched(task, event) or made.total != sum(made.counts.values()):
             found.append(f'{source} to {target}, {lose} lost, {repeat} repeated: {made.total}, and a plain search finds others')
         for kind, numbers in made.firsts.items():
-            told = task.play(list(numbers), False)
-            fates = tuple(record.fate for record in told.records if record.event > event)
+            records = task.play(list(numbers), False).report.records
+            fates = tuple(record.fate for record in records if record.event > event)
             found += [] if fates == kind[0] else [f'{numbers} have {fates}, not {kind[0]}']
     found += faults_of_killed(program)
     text = command.read(path_of('two_homes'))
     packet = max(number for number, event in enumerate(scenario_events('x', text)) if event.startswith('host'))
-    made, task, event, targets = explored(program, text, '--event', packet, '--lose', 1)
-    if task.has_settle or task.chain is None or made.counts != searched(task, targets, event):
+    made, task, event = explored(program, text, '--event', packet, '--lose', 1)
+    if task.has_settle or task.chain is None or made.counts != searched(task, event):
         found.append(f'with a chain: {made.counts}')
     status, written, said = run('tools/explore.py', path_of('two_port_restricted'), '--program', program, '--event', '4', '--repeat', '2', '--most', '50')
     return found + ([] if status == 1 and written.startswith('50 schedules') and 'there are more' in written
@@ -144,10 +144,10 @@ def check_sweep(program):
         text = command.read(path).replace('seed = 1', f'seed = {row["seed"]}').replace('kind = "port"', f'kind = "{row["n1.kind"]}"', 1)
         at = text.rindex('idle = 60000')
         text = text[:at] + f'idle = {row["n2.idle"]}' + text[at + 12:] + f'cone_try = {row["b.cone_try"]}\n'
-        written = command.play(program, text)[1].splitlines()
+        played = told.Told(told.Program(program), text)
         totals = 'total ' + ' '.join(f'{name} {row[name]}' for name in sweep.TOTALS)
-        if written[-1] != totals or row['a'] != sweep.end_of(report.Report('\n'.join(written)), 'a'):
-            found.append(f'{dict(row)}: {written[-1]}')
+        if played.report.totals != totals or row['a'] != sweep.end_of(played, 'a'):
+            found.append(f'{dict(row)}: {played.report.totals}')
     parts = [run('tools/sweep.py', path, *words, '--shard', f'{part}/5', '--jobs', '2')[1].splitlines() for part in range(1, 6)]
     if [line for part in parts for line in part[2:]] != whole.splitlines()[2:] or any(part[1] != whole.splitlines()[1] for part in parts):
         found.append('the parts do not make the whole')

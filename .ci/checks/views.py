@@ -16,16 +16,19 @@ import subprocess
 import sys
 import tempfile
 
+import causes
 import command
 import gallery
 import matrix
-import moments
 import page
 import parts
 import player
 import probes
+import told
 import view
 from laboratory import EXAMPLE, HOSTILE, NO_REACH, REFUSED, TOP, flow_svg, refusal, script
+from stored import of_tests
+from tally import skip
 
 # What is asked of a copy of this folder in which nothing is built.
 UNBUILT = '''
@@ -72,32 +75,64 @@ def check_views(program):
 
 
 def check_states(program):
-    """What a NAT is said to let in agrees with what it did: a datagram that came in was let in, and one that it stopped was not."""
+    """What a NAT is said to let in agrees with what it did: a datagram that came in was let in, and one that it stopped was not. Whoever
+    is barred is named."""
     found, playing = [], player.Player(program)
     for path in examples():
         shown = view.view_of(playing, command.read(path), 'x')
         if 'faults' in shown:
             continue
+        if not shown['has_state']:
+            skip('what the page says that nodes keep', 'this program does not answer `state`')
+            break
         kinds = {node['name']: node['kind'] for node in shown['nodes']}
+        made = told.Told(playing, command.read(path))
         for record in shown['records']:
+            found += [f'{path}: nobody is barred in {record["line"]}'] if record['fate'] == 'barred' and not record.get('barred') else []
             entry = re.search(r', ([\d.]+:\d+) > [\d.]+:(\d+), ', record['entries'][0][1] if 'way' in record else '')
             nats = [node for node in record.get('way', []) if kinds.get(node) == 'nat']
             if not entry or not nats or record['way'][-1] != record['node'] or kinds.get(record['node']) not in ('client', 'nat'):
                 continue
-            if lets_in(shown, record, nats[-1], *entry.groups()) != (kinds[record['node']] == 'client'):
+            if lets_in(made, record, nats[-1]) != (kinds[record['node']] == 'client'):
                 found.append(f'{path}: {record["line"]}')
+    return found + faults_of_patches(playing)
+
+
+def lets_in(made, record, nat):
+    """Whether a NAT, by what is kept before a record, lets in what comes to it."""
+    kept, now = made.kept, record['moment']
+    entry, count = made.report.came_by(made.report.records[record['index']]), kept.before(record['index'])
+    number = causes.port_at(made, kept, nat, entry, count)
+    port = kept.port(nat, number, count, now) if number is not None else None
+    if port is None:
+        return False
+    names = {one.source for one in kept.lets(nat, number, count, now)}
+    return port.toward == entry.source if port.toward else made.known.tables[nat]['kind'] == 'cone' or bool({entry.source, entry.source.rpartition(':')[0]} & names)
+
+
+def faults_of_patches(playing):
+    """A window of records begins with what is kept there, and has a part for each record."""
+    found = []
+    for name in ('scenarios/client_to_native', 'scenarios/restarted_relay', 'chains/two_homes', 'scenarios/forgotten_client'):
+        made = told.Told(playing, command.read(os.path.join(TOP, 'examples', f'{name}.toml')))
+        whole = view.View(made, 'x').kept()
+        for first in range(0, len(made.report.records), 7):
+            shown = view.View(made, 'x')
+            shown.first, shown.records = first, made.report.records[first:]
+            part = shown.kept()
+            now = [view.said_of(node, what) for node, what in made.kept.state(made.kept.before(first), made.report.records[first].moment)]
+            if part['base'] != now or part['patches'] != whole['patches'][first:]:
+                found.append(f'{name} from record {first} on: {part["base"]}')
     return found
 
 
-def lets_in(shown, record, nat, source, port):
-    """Whether a NAT, as the page has it before a record, lets in what comes from a source to a port."""
-    state = moments.states_at(shown['patches'], record['index'])
-    for mapping in state.get(nat, {}).get('mappings', {}).values():
-        if mapping['port'] in (port, None) and mapping['until'] > record['moment']:
-            live = [peer for peer, until in mapping['peers'].items() if until > record['moment']]
-            if {'anyone', source, source.rpartition(':')[0]} & set(live):
-                return True
-    return False
+def check_stored(program):
+    """What is stored of `state` for each example is what the program says."""
+    stored, told_of = player.stored_states(), dict(of_tests('shown').blocks(program))
+    if None in told_of.values():
+        skip('what is stored of `state`', 'this program does not answer it')
+        return []
+    return [f'tests/stored/shown.txt: {name} is not what the program says' for name in sorted({*stored, *told_of}) if stored.get(name) != told_of.get(name)]
 
 
 def check_matrices(program):
@@ -187,11 +222,11 @@ def check_datagrams(program):
 def check_openings(program):
     """A page opens where a packet was lost first, else where one was handed in; and it says why, as `trace` does."""
     found, playing = [], player.Player(program)
-    for name, due, why in (('chains/two_homes', ' give_up ', 'sender and peer are behind one NAT'), ('scenarios/lost_mapping', ' n1 nat_closed', 'its mapping is gone'),
+    for name, due, why in (('chains/two_homes', ' give_up ', 'sender and peer are behind one NAT'), ('scenarios/lost_mapping', ' n1 nat_closed', 'and nothing renewed it'),
                            ('scenarios/symmetric_client', ' host a off', 'a NAT on its way is symmetric'), ('scenarios/failed_send', '!fault=', 'the send failed'),
                            ('scenarios/restarted_relay', ' r1 unlisted', 'r1 was restarted'), ('scenarios/two_port_restricted', ' host a queued', ''),
                            ('scenarios/peer_without_address', ' host a dest', 'b has no address'), ('scenarios/forgotten_client', ' nat_closed', 'was told to forget'),
-                           ('scenarios/no_such_host', ' give_up ', 'no native host'), ('scenarios/restarted_nat', ' nat_closed', 'n1 restarted'),
+                           ('scenarios/no_such_host', ' give_up ', 'no native host'), ('scenarios/restarted_nat', ' nat_closed', 'it was restarted'),
                            ('chains/tree_of_nats', '!hairpin=', 'behind one NAT'), ('scenarios/unreachable_peer', ' give_up ', '4 tries got no answer')):
         shown = view.view_of(playing, command.read(os.path.join(TOP, 'examples', f'{name}.toml')), 'x')
         record = shown['records'][shown['opening']]
@@ -230,10 +265,10 @@ def one_carrier_word(kind):
 
 def check_unbuilt(program):
     """Where nothing is built, the examples are shown as they stand, and nothing else is."""
-    found, stored = [], player.Stored()
+    found, stored, built = [], player.Stored(), player.Player(program)
     for path in examples():
-        shown, played = view.view_of(stored, command.read(path), 'x'), view.view_of(player.Player(program), command.read(path), 'x')
-        if {**shown, 'reach': None} != {**played, 'reach': None}:
+        shown, played = view.view_of(stored, command.read(path), 'x'), view.view_of(built, command.read(path), 'x')
+        if 'state' not in built.unknown and {**shown, 'reach': None, 'note': ''} != {**played, 'reach': None, 'note': ''}:
             found.append(f'{path}: another view')
     with tempfile.TemporaryDirectory() as folder:
         for name in ('docs', 'examples', 'tests'):
