@@ -117,7 +117,7 @@ impl Listener for CaptureWriter {
         Ok(())
     }
 
-    fn end<K: Sink>(&self, _world: &World, _out: &mut K) -> Result<(), Failed> {
+    fn end<K: Sink>(&mut self, _world: &World, _out: &mut K) -> Result<(), Failed> {
         Ok(())
     }
 

@@ -52,9 +52,9 @@ pub trait Listener {
             → IsHeard (account.wants r) (K.state out.old) (K.state out.new) (news t H r) result };
 
     /// Writes what stands behind the last record. The world is as that record left it.
-    fn end<K: Sink>(&self, world: &World, out: &mut K) -> Result<(), Failed>
+    fn end<K: Sink>(&mut self, world: &World, out: &mut K) -> Result<(), Failed>
         /// See `Listener::begin`.
-        ensures { (d : Draws) (H : List Full) → keeps self.now world.now.topology H → StandsFor d world.now H
+        ensures { (d : Draws) (H : List Full) → keeps self.old world.now.topology H → StandsFor d world.now H
             → Writing (K.state out.old) (K.state out.new) (account.last (lab_in d world.now) H) result };
 
     /// Writes what stands in place of a record that would make too long a wire.

@@ -64,7 +64,7 @@ impl Listener for TotalsWriter {
         Ok(())
     }
 
-    fn end<K: Sink>(&self, _world: &World, out: &mut K) -> Result<(), Failed> {
+    fn end<K: Sink>(&mut self, _world: &World, out: &mut K) -> Result<(), Failed> {
         write_totals(&self.sums, out)
     }
 

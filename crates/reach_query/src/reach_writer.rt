@@ -173,7 +173,7 @@ impl Listener for ReachWriter<'_> {
         Ok(())
     }
 
-    fn end<K: Sink>(&self, world: &World, out: &mut K) -> Result<(), Failed> {
+    fn end<K: Sink>(&mut self, world: &World, out: &mut K) -> Result<(), Failed> {
         let mut counts = PairCounts::new();
         write_pairs(self.topology, world, &mut counts, out)?;
         write_pairs_total(&counts, out)

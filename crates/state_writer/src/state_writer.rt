@@ -92,7 +92,7 @@ impl Listener for StateWriter<'_> {
         Ok(())
     }
 
-    fn end<K: Sink>(&self, _world: &World, out: &mut K) -> Result<(), Failed> {
+    fn end<K: Sink>(&mut self, _world: &World, out: &mut K) -> Result<(), Failed> {
         write_count(self.records, out)
     }
 

@@ -4,7 +4,7 @@ ghost use Rattle.td_base.specs.declared.millis.TheConstants.{CLOCK_END_MS};
 ghost use Rattle.topology.specs.Topology.{node_at};
 ghost use Rattle.history.specs.Full.{Full, udp};
 ghost use Rattle.legal.specs.Lab.{Draws};
-ghost use Rattle.legal.specs.Past.{now};
+ghost use Rattle.legal.specs.Past.{now, was_delivered};
 ghost use Rattle.legal.specs.Emit.{route};
 ghost use Rattle.lab_nodes.specs.PlayedNode.{row_of, IsReady};
 ghost use Rattle.world.specs.Route.{by_route, IsThere};
@@ -46,6 +46,15 @@ impl<'a> World<'a> {
         ensures early { result.0 < CLOCK_END_MS }
     {
         self.moment
+    }
+
+    /// Whether the entry of a number was delivered.
+    pub fn was_delivered(&self, number: u32) -> bool
+        /// Whether a world's entry was delivered is so in each history that the world stands for; of a number that no entry
+        /// has, none was.
+        ensures { (d : Draws) (H : List Full) → StandsFor d self.now H → result ≡ was_delivered number H }
+    {
+        self.wire.was_delivered(number as usize)
     }
 
     /// The node of a number, if there is one, with what is kept of it: of a client its address, its phase, its peers and when

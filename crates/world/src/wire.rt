@@ -74,6 +74,13 @@ impl Wire {
         self.entries.get(number)
     }
 
+    /// Whether the entry of a number was delivered.
+    pub fn was_delivered(&self, number: usize) -> bool
+        ensures { result ≡ get_or self.now.done number false }
+    {
+        number < self.delivered.len() && self.delivered[number]
+    }
+
     /// A copy of some bytes, in memory from where the wire takes its own.
     pub fn copy_of(&self, bytes: &[u8]) -> Result<Octets, NoMemory>
         ensures copied { IfOk result (λ copied. copied ≡ bytes.now) }
