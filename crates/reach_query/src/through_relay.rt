@@ -117,12 +117,8 @@ fn relayed(world: &World<'_>, a: ClientHere<'_>, host: NativeNode, by: RelayHere
     let on = a.is_on();
     let settled = a.is_settled(world);
     let speaks = speaks_to(world, a, own, by.row.at);
-    let speaks_server = speaks_to(
-        world,
-        a,
-        own,
-        server_endpoint(world.topology(), a.row.server),
-    );
+    let server = server_endpoint(world.topology(), a.row.server);
+    let speaks_server = speaks_to(world, a, own, server);
     let host_known = a.client.peer(now, host.six);
     let client_known = by.relay.peer(now, own);
     let fresh = known::is_fresh(host_known, now);

@@ -1,8 +1,9 @@
 //! Who reaches whom of two clients.
-ghost use Rattle.std.specs.Prelude.{◌≡◌, ◌≤◌, ◌||◌, ◌&&◌, not, List};
+ghost use Rattle.std.specs.Prelude.{◌≡◌, ◌==◌, ◌≤◌, ◌||◌, ◌&&◌, not, List};
 ghost use Rattle.client_core.specs.Client.{callable_from};
 ghost use Rattle.history.specs.Full.{Full};
 ghost use Rattle.legal.specs.Lab.{Draws};
+ghost use Rattle.theory_origins.specs.Sources.{outermost};
 ghost use Rattle.theory_reaching.specs.Conditions.{is_settled};
 ghost use Rattle.theory_reaching.specs.BetweenClients.{two_clients, between_clients_row};
 ghost use Rattle.world.specs.World.{StandsFor, lab_in};
@@ -26,6 +27,18 @@ fn are_settled(world: &World<'_>, a: ClientHere<'_>, b: ClientHere<'_>) -> bool
         return false;
     }
     b.is_settled(world)
+}
+
+/// Whether the outermost NATs of two clients are one.
+fn have_one_nat(world: &World<'_>, a: ClientHere<'_>, b: ClientHere<'_>) -> bool
+    ensures { (d : Draws) (H : List Full) → StandsFor d world.now H → IsClientHere (lab_in d world.now) H a.entry
+        → IsClientHere (lab_in d world.now) H b.entry
+        → result ≡ (outermost (lab_in d world.now) a.entry.row == outermost (lab_in d world.now) b.entry.row) }
+{
+    let nats = world.nats();
+    let outer = nats.outermost(a.row.nat);
+    let other_outer = nats.outermost(b.row.nat);
+    outer == other_outer
 }
 
 /// Whether a receiver is barred for a sender whose bubbles don't come straight to it: a cone one sends none there, and those of another one
@@ -58,9 +71,7 @@ fn two_clients(world: &World<'_>, a: ClientHere<'_>, b: ClientHere<'_>) -> TwoCl
     let same_address = own == other;
     let speaks = speaks_to(world, a, own, embedded(other));
     let settled = are_settled(world, a, b);
-    let nats = world.nats();
-    let outer = nats.outermost(a.row.nat);
-    let other_outer = nats.outermost(b.row.nat);
+    let one_nat = have_one_nat(world, a, b);
     let there_known = a.client.peer(now, other);
     let back_known = b.client.peer(now, own);
     let heard = b.client.has_room(now, own);
@@ -80,7 +91,7 @@ fn two_clients(world: &World<'_>, a: ClientHere<'_>, b: ClientHere<'_>) -> TwoCl
         same_address,
         speaks,
         settled,
-        one_nat: outer == other_outer,
+        one_nat,
         heard,
         fresh,
         let_in,

@@ -1,6 +1,8 @@
 //! From a client to another one: what the table of words asks, and its answer.
-ghost use Rattle.std.specs.Prelude.{◌≡◌};
-ghost use Rattle.theory_reaching.specs.BetweenClients.{between_clients_row};
+ghost use Rattle.std.specs.Prelude.{◌≡◌, ◌++◌};
+ghost use Rattle.teredo_node.specs.Rows.{first_line};
+ghost use Rattle.theory_reaching.specs.declared.word.Reach.TheVariants.{Within5};
+ghost use Rattle.theory_reaching.specs.BetweenClients.{between_clients_row, early_client_lines, late_client_lines};
 
 use crate::word::Reach;
 
@@ -42,49 +44,10 @@ pub struct TwoClients {
 }
 
 impl TwoClients {
-    /// The word of the first line whose condition holds.
-    pub fn word(self) -> Reach
-        /// What is asked of two clients gives the word of the first line whose condition holds; so does what is asked
-        /// of a client, a native host and its relay, for packets to the native and for packets from it.
-        /// Leaves open: who answers what is asked; `world` does.
-        ensures { result ≡ between_clients_row self }
+    /// The word by how many packets the receiver keeps, and by the sender's cone bit.
+    fn late_word(self) -> Reach
+        ensures { result ≡ first_line (late_client_lines self) Within5 }
     {
-        if !self.on {
-            return Reach::Off;
-        }
-        if !self.there {
-            return Reach::Away;
-        }
-        if self.same_address {
-            return Reach::OneAddress;
-        }
-        if (self.fresh || self.to_cone) && (!self.speaks && (!self.one_nat && self.heard)) {
-            return Reach::Moved;
-        }
-        if !self.settled {
-            return Reach::Lost;
-        }
-        if self.one_nat {
-            return Reach::OneNat;
-        }
-        if !self.heard {
-            return Reach::Full;
-        }
-        if self.fresh && !self.let_in {
-            return Reach::Stale;
-        }
-        if self.fresh || self.to_cone {
-            return Reach::Within1;
-        }
-        if self.barred {
-            return Reach::Barred;
-        }
-        if !self.room {
-            return Reach::Full;
-        }
-        if self.barred_there {
-            return Reach::Barred;
-        }
         if self.waiting == 1 {
             return Reach::Within6;
         }
@@ -116,5 +79,58 @@ impl TwoClients {
             return Reach::Within4;
         }
         Reach::Within5
+    }
+
+    /// The word on two clients that are qualified, of which the sender speaks to the receiver or sends bubbles first.
+    fn early_word(self) -> Reach
+        ensures { result ≡ first_line (early_client_lines self ++ late_client_lines self) Within5 }
+    {
+        if !self.settled {
+            return Reach::Lost;
+        }
+        if self.one_nat {
+            return Reach::OneNat;
+        }
+        if !self.heard {
+            return Reach::Full;
+        }
+        if self.fresh && !self.let_in {
+            return Reach::Stale;
+        }
+        if self.fresh || self.to_cone {
+            return Reach::Within1;
+        }
+        if self.barred {
+            return Reach::Barred;
+        }
+        if !self.room {
+            return Reach::Full;
+        }
+        if self.barred_there {
+            return Reach::Barred;
+        }
+        self.late_word()
+    }
+
+    /// The word of the first line whose condition holds.
+    pub fn word(self) -> Reach
+        /// What is asked of two clients gives the word of the first line whose condition holds; so does what is asked
+        /// of a client, a native host and its relay, for packets to the native and for packets from it.
+        /// Leaves open: who answers what is asked; `world` does.
+        ensures { result ≡ between_clients_row self }
+    {
+        if !self.on {
+            return Reach::Off;
+        }
+        if !self.there {
+            return Reach::Away;
+        }
+        if self.same_address {
+            return Reach::OneAddress;
+        }
+        if (self.fresh || self.to_cone) && (!self.speaks && (!self.one_nat && self.heard)) {
+            return Reach::Moved;
+        }
+        self.early_word()
     }
 }

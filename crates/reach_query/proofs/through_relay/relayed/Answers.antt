@@ -18,7 +18,7 @@ returns c = λ d H s client relay.
     let settled = c.is_settled-settled.ensures d H s client in
     let speaks = c.speaks_to-speaks.ensures d H s client in
     let speaks_server = c.speaks_to-speaks_server.ensures d H s client
-    ∙ ap (λ (e : Ep). speaks_to lab H a.row own e) (c.server_endpoint.ensures ∙ ap (λ (t : TopologyState). server_ep (primary_of (server_at t a.row.server))) c.topology.ensures) in
+    ∙ ap (λ (e : Ep). speaks_to lab H a.row own e) (c.server_endpoint-server.ensures ∙ ap (λ (t : TopologyState). server_ep (primary_of (server_at t a.row.server))) c.topology.ensures) in
     let host_known = c.peer-host_known.ensures.known j knows in
     let client_known = c.peer-client_known.ensures.known k serves in
     let fresh = c.is_fresh-fresh.ensures ∙ ap (is_fresh m) host_known in

@@ -1,5 +1,4 @@
 use Rattle.reach_query.proofs.Words.{AreAlikeOfTwo, Bool, Ep, Peer, TwoClients, ap, embedded, has_cone, is_barred, is_fresh, is_led_to, journal, known_in, lab_in, length, mentions, not, speaks_to, subst, sym, two_clients, ◌&&◌, ◌==◌, ◌||◌, ◌∙◌}
-use Rattle.reach_query.proofs.Shown.{outermost_shown}
 use Rattle.reach_query.proofs.AskedOfClients.{asked_now, looked_at, shut_where_barred, looked_at_is_alike}
 use Rattle.reach_query.proofs.two_clients.two_clients.Goals as goal
 
@@ -9,8 +8,6 @@ returns c = λ d H s sender receiver.
     let a = c.args.a in
     let b = c.args.b in
     let m = c.moment-now.result.0 in
-    let w = c.args.world.now in
-    let nats = c.nats-nats.ensures in
     let own = c.address-own.result in
     let other = c.address-other.result in
     let j = journal a.number H in
@@ -20,8 +17,7 @@ returns c = λ d H s sender receiver.
     let same_address = c.eq-same_address.ensures in
     let speaks = c.speaks_to-speaks.ensures d H s sender ∙ ap (λ (e : Ep). speaks_to lab H a.row own e) c.embedded.ensures in
     let settled = c.are_settled-settled.ensures d H s sender receiver in
-    let outer = outermost_shown d w c.nats-nats.result.now.chain a.row c.outermost-outer.result nats.chain c.outermost-outer.ensures in
-    let other_outer = outermost_shown d w c.nats-nats.result.now.chain b.row c.outermost-other_outer.result nats.chain c.outermost-other_outer.ensures in
+    let one_nat = c.have_one_nat-one_nat.ensures d H s sender receiver in
     let there_known = c.peer-there_known.ensures.known j sender.kept.stands in
     let back_known = c.peer-back_known.ensures.known k receiver.kept.stands in
     let heard = c.has_room-heard.ensures k receiver.kept.stands in
@@ -49,7 +45,7 @@ returns c = λ d H s sender receiver.
       same_address = same_address i;
       speaks = speaks i;
       settled = settled i;
-      one_nat = outer i == other_outer i;
+      one_nat = one_nat i;
       heard = heard i;
       fresh = fresh i;
       let_in = let_in i;
