@@ -6,6 +6,7 @@ SOURCE is
 - docs/parts/fates.txt, whose rows have the cells of the table of fates with ` | ` between them, with `#S` those of a server;
 - the schema of scenarios, whose keys it is, with `#events` its events;
 - docs/COMMANDS.md itself, whose sections have the statuses;
+- docs/parts/reach.txt with `#TABLE`, whose words the lines of that table of `reach` have;
 - a file of tests/stored/, of which stored_tables.py makes a table;
 - a scenario of an example, as it stands;
 - a folder of examples, each with the first sentence of its first comment, and with what that has behind `RFC 4380: ` and `Look at: `.
@@ -18,6 +19,7 @@ import os
 import re
 
 import keys
+import reach_tables
 import statuses
 import stored_tables
 
@@ -124,6 +126,8 @@ def made(top, source, old=''):
         return keys.made(read(top, path), part)
     if path == COMMANDS:
         return statuses.made(read(top, path))
+    if path == reach_tables.SAID:
+        return reach_tables.made(top, part)
     if path.startswith(stored_tables.FOLDER) and os.path.exists(os.path.join(top, path)):
         return stored_tables.made(read(top, path), part)
     if path == FATES and part:
