@@ -36,7 +36,7 @@ module _ (ls : List (Option Load)) (j : List Mention) (m0 : ℕ) (s : NodeKept) 
   some_of_map None = refl
   some_of_map (Some P) = refl
 
-  listed_is : (p : Ip6) → lists_peer s.touches m p ≡ is_listed p m j
+  pub listed_is : (p : Ip6) → lists_peer s.touches m p ≡ is_listed p m j
   listed_is p = sym (some_if (lists_peer s.touches m p) (loads_of_peer s.kept p)) ∙ ap is_some (keeps.known m p later) ∙ some_of_map (peer_at j m p) ∙ listed_is_known j m p
 
   filter_alike : (f g : Ip6 → Bool) → ((p : Ip6) → f p ≡ g p) → (ps : List Ip6) → filter f ps ≡ filter g ps

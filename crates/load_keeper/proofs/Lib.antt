@@ -1,4 +1,5 @@
 mod Words
+pub mod Whole
 pub mod Lists
 pub mod Keeping
 pub mod Known
@@ -10,3 +11,4 @@ pub mod Steps
 pub mod Wires
 pub mod Stands
 pub mod Nodes
+pub mod Waits

@@ -14,6 +14,7 @@ stands_new t k packets wire empty = record {
   packets = packets;
   wire = wire;
   count = empty.count;
+  few = empty.few;
   each = λ n a some. subst (λ (s : NodeKept). KeepsLoadsOf [] (mentions_by a []) 0 s) (sym (none_of_empty k.nodes.items empty.each n)) (keeps_nothing_by [] 0 a);
 }
 

@@ -1,8 +1,9 @@
 -- A keeper that heard the next record stands for the history with it.
-use Rattle.load_keeper.proofs.Words.{AreKeptAfter, Bool, Entry, Ep, Full, Ip6, IsEntryOf, IsHeard, KeepsLoadsOf, List, Load, LoadKeeper, Loads, Mention, Node, NodeKept, NodeLoads, None, Option, Record, Saying, Some, StandsForLoads, TopologyState, [], add-one, ap, arith, effect_at, entries_by_marks, entry_peer, false, get_or, get_or_past, handed_of, if◌then◌else◌, inl, inr, is_handing_in, is_new_address, is_node, is_restart, is_some, kept_after, kept_after_at, kept_at, length, length-append, length-map, load_at, load_by_act, load_given, load_goes_on, load_that_goes_on, loads, loads_released, made_loads, map, mentions_at, mentions_if, nat_eq, nat_tests, node_at, node_if, node_kept, nodes, nothing_kept, now, numbered_mentions, option_and_then, record_of, refl, released_records, sayings_of, says_by, slice_get, slice_get_cases, source_of, source_of_entry, subst, sym, true, unspecified, unwrap_or, ℕ, ◌++◌, ◌+◌, ◌<◌, ◌==◌, ◌||◌, ◌∙◌, ◌∷◌, ◌≡◌, ◌≤◌, ◌⊎◌}
+use Rattle.load_keeper.proofs.Words.{AreKeptAfter, Bool, Entry, Ep, Full, Ip6, IsEntryOf, IsToldOf, KeepsLoadsOf, List, Load, LoadKeeper, Loads, Mention, NODES_MAX, Node, NodeKept, NodeLoads, None, Option, Record, Saying, Some, StandsForLoads, TopologyState, [], add-one, ap, arith, effect_at, entries_by_marks, entry_peer, false, get_or, get_or_past, handed_of, if◌then◌else◌, inl, inr, is_handing_in, is_new_address, is_node, is_restart, is_some, kept_after, kept_after_at, kept_at, length, length-append, length-map, load_at, load_by_act, load_given, load_goes_on, load_that_goes_on, loads, loads_released, made_loads, map, mentions_at, mentions_if, nat_eq, nat_tests, node_at, node_if, node_kept, nodes, nothing_kept, now, numbered_mentions, option_and_then, record_of, refl, released_records, sayings_of, says_by, slice_get, slice_get_cases, source_of, source_of_entry, subst, sym, true, unspecified, unwrap_or, ℕ, ◌++◌, ◌+◌, ◌<◌, ◌==◌, ◌||◌, ◌∙◌, ◌∷◌, ◌≡◌, ◌≤◌, ◌⊎◌}
 use Rattle.load_keeper.proofs.Numbers.{records_counted}
 use Rattle.load_keeper.proofs.Said.{said_is, released_is}
 use Rattle.load_keeper.proofs.Steps.{keeps_nothing, step_of_other, step_of_restart, step_of_own}
+use Rattle.load_keeper.proofs.Whole.{IsWholeEntry, IsToldWhole, peer_by, source_by, whole, says_alike, released_alike, kept_alike}
 use Rattle.load_keeper.proofs.Wires.{by_marks, entries_are, given_is}
 
 -- what the calls of `hear` leave
@@ -38,7 +39,7 @@ module _ (t : TopologyState) (k : LoadKeeper) (H : List Full) (stands : StandsFo
     by None none = subst (λ (s : NodeKept). KeepsLoadsOf (loads t H).records [] (now H) s) (sym (kept_past k.nodes.items n (omega (arith, stands.count, node_past t n none)))) (keeps_nothing (loads t H).records (now H))
     by (Some a) some = stands.each n a some
 
-  module _ (r : Full) (peer : Option Ip6) (from : Option Ep) (heard : IsHeard t H r (record_of r) peer from) where
+  module _ (r : Full) (peer : Option Ip6) (from : Option Ep) (heard : IsToldWhole t H r peer from) where
     abbrev given : Option Load
     given = load_given (loads t H) r
 
@@ -47,13 +48,13 @@ module _ (t : TopologyState) (k : LoadKeeper) (H : List Full) (stands : StandsFo
 
     about_is : entry_peer r.entry ≡ unwrap_or peer unspecified
     about_is = by r.entry heard.entry where
-      by : (o : Option Entry) → IsEntryOf (effect_at (node_if t r.node) r.fate) r peer from o → entry_peer o ≡ unwrap_or peer unspecified
+      by : (o : Option Entry) → IsWholeEntry (effect_at (node_if t r.node) r.fate) r peer from o → entry_peer o ≡ unwrap_or peer unspecified
       by None none = rw none.0 refl
       by (Some e) some = ap (λ (p : Option Ip6). unwrap_or p unspecified) some.2
 
     source_is : source_of_entry r.entry ≡ from
     source_is = by r.entry heard.entry where
-      by : (o : Option Entry) → IsEntryOf (effect_at (node_if t r.node) r.fate) r peer from o → source_of_entry o ≡ from
+      by : (o : Option Entry) → IsWholeEntry (effect_at (node_if t r.node) r.fate) r peer from o → source_of_entry o ≡ from
       by None none = sym none.1
       by (Some e) some = some.3
 
@@ -101,13 +102,14 @@ module _ (t : TopologyState) (k : LoadKeeper) (H : List Full) (stands : StandsFo
                 subst (λ (z : NodeKept). KeepsLoadsOf ((loads t H).records ++ given ∷ []) (numbered_mentions (r ∷ H) n a) r.moment z) (sym none)
                 (step_of_restart (loads t H).records H n a r given (records_counted t H) heard.later (kept_at k.nodes.items (Some n)) its anew)
             own false on = step_of_own (loads t H).records H n a r given (records_counted t H) heard.later (kept_at k.nodes.items (Some n)) (record { ip = record { 0 = [] }; port = 0 }) its on peer from (stands.each n a some)
-                (subst (λ (b : Option Node). IsEntryOf (effect_at b r.fate) r peer from r.entry) node_is heard.entry) (λ none. subst (λ (b : Option Node). is_new_address b r.fate ≡ false) node_is (heard.changed none))
+                (subst (λ (b : Option Node). IsWholeEntry (effect_at b r.fate) r peer from r.entry) node_is heard.entry) (λ none. subst (λ (b : Option Node). is_new_address b r.fate ≡ false) node_is (heard.changed none))
 
       pub stands_then : StandsForLoads t k' (r ∷ H)
       stands_then = record {
         packets = packets_are;
         wire = wire_is;
         count = was.nodes.count ∙ stands.count;
+        few = subst (λ (c : ℕ). c ≤ NODES_MAX) (sym was.nodes.count) stands.few;
         each = λ n a some. subst (λ (s : NodeKept). KeepsLoadsOf (loads t (r ∷ H)).records (numbered_mentions (r ∷ H) n a) r.moment s)
             (sym (was.nodes.each n (subst (λ (c : ℕ). n < c) (sym stands.count) (node_within t n a some)) ∙ ap (λ (l : Option Load). kept_after_at t (record_of r) peer from l r.node n (kept_at k.nodes.items (Some n))) given_by))
             (each_is n a some);
@@ -155,11 +157,29 @@ heard_by t k k1 k2 k3 r peer from said c = record {
   packets = c.packets3 ∙ rw (c.packets2, c.packets1) refl;
 }
 
+-- the same of the peer and the source that the record's entry has
+whole_heard : (t : TopologyState) (k k' : LoadKeeper) (H : List Full) (x : Full) (peer : Option Ip6) (from : Option Ep) (said : List Saying) → IsToldOf t H x (record_of x) peer from
+    → Heard t k k' (record_of x) peer from said → Heard t k k' (record_of x) (peer_by x.entry) (source_by x.entry) said
+whole_heard t k k' H x peer from said told h =
+    let l = load_by_act k.packets k.wire.items x.act in
+    let s = kept_at k.nodes.items x.node in
+    record {
+      says = h.says ∙ says_alike t x peer from told.about l s (is_some (handed_of x));
+      wire = h.wire ∙ ap (λ (ls : List (Option Load)). k.wire.items ++ entries_by_marks (record_of x).marks (ls ++ load_that_goes_on x.fate l ∷ [])) (released_alike t x peer from told.about s);
+      nodes = record {
+        count = h.nodes.count;
+        each = λ n within. h.nodes.each n within ∙ kept_alike t x peer from told.about l n (kept_at k.nodes.items (Some n));
+      };
+      packets = h.packets;
+    }
+
 -- and so it stands for the history with the record, and says what that says
 pub hears : (t : TopologyState) (k k1 k2 k3 : LoadKeeper) (r : Record) (peer : Option Ip6) (from : Option Ep) (said : List Saying) → Calls t k k1 k2 k3 r peer from said
-    → (H : List Full) (x : Full) → StandsForLoads t k H → IsHeard t H x r peer from → StandsForLoads t k3 (x ∷ H) × (said ≡ sayings_of t H (loads t H) x)
+    → (H : List Full) (x : Full) → StandsForLoads t k H → IsToldOf t H x r peer from → StandsForLoads t k3 (x ∷ H) × (said ≡ sayings_of t H (loads t H) x)
 hears t k k1 k2 k3 r peer from said c H x stands heard =
     let same : record_of x ≡ r = heard.told in
-    let told : IsHeard t H x (record_of x) peer from = subst (λ (y : Record). IsHeard t H x y peer from) (sym same) heard in
+    let told : IsToldOf t H x (record_of x) peer from = subst (λ (y : Record). IsToldOf t H x y peer from) (sym same) heard in
     let was : Heard t k k3 (record_of x) peer from said = subst (λ (y : Record). Heard t k k3 y peer from said) (sym same) (heard_by t k k1 k2 k3 r peer from said c) in
-    (stands_then t k H stands x peer from told k3 said was, says_it t k H stands x peer from told said was.says)
+    let it = whole_heard t k k3 H x peer from said told was in
+    let is = whole t H x peer from told in
+    (stands_then t k H stands x (peer_by x.entry) (source_by x.entry) is k3 said it, says_it t k H stands x (peer_by x.entry) (source_by x.entry) is said it.says)

@@ -1,9 +1,10 @@
 -- What a node keeps after a record is what the history with that record says.
-use Rattle.load_keeper.proofs.Words.{AllByRecursion, Bearing, Bool, Effect, Entry, Ep, Fate, Full, GivesUp, Hears, Holds, Ip6, IsEntryOf, Journal, KeepsItsPacket, KeepsLoadsOf, List, Load, Mention, Node, NodeKept, None, Nothing, Option, Queues, Some, Tests, Touches, [], after_effect, after_effect_on, ap, arith, bearing_of, client, client_effect, effect_at, false, get_or, get_or-append_seam, held_of, if◌then◌else◌, is_changed, is_changed_address, is_new_address, is_node, is_restart, is_some, journal, kept_after, length, load_at, map, mention, mentions, mentions_by, nat, native, nothing_kept, now, number_in, numbered_mentions, option_map, record_of, refl, relay, relay_bearing_of, relay_effect, relay_mention, relay_mentions, reverse, server, source_of, subst, sym, touched, true, unwrap_or, with_entries, with_number, with_record_numbers, ℕ, ◌++◌, ◌+◌, ◌<◌, ◌||◌, ◌∙◌, ◌∷◌, ◌≡◌, ◌≤◌}
+use Rattle.load_keeper.proofs.Words.{Bool, Effect, Entry, Ep, Fate, Full, GivesUp, Hears, Holds, Ip6, KeepsItsPacket, KeepsLoadsOf, List, Load, Mention, Node, NodeKept, None, Nothing, Option, Queues, Some, Tests, Touches, [], after_effect, after_effect_on, ap, arith, bearing_of, client, client_effect, effect_at, false, get_or-append_seam, held_of, if◌then◌else◌, is_changed, is_changed_address, is_new_address, is_node, is_restart, is_some, journal, kept_after, length, load_at, mention, mentions, mentions_by, nat, native, nothing_kept, now, numbered_mentions, option_map, record_of, refl, relay, relay_bearing_of, relay_effect, relay_mention, relay_mentions, server, source_of, subst, sym, touched, true, unwrap_or, with_entries, with_number, with_record_numbers, ℕ, ◌++◌, ◌+◌, ◌∙◌, ◌∷◌, ◌≡◌, ◌≤◌}
 use Rattle.teredo_node.specs.declared.fate.Fate.TheVariants as fate
 use Rattle.load_keeper.proofs.Keeping.{ComesFrom}
-use Rattle.load_keeper.proofs.Known.{Bears, BearsAs, keeps_about, keeps_about_nobody}
-use Rattle.load_keeper.proofs.Numbers.{none_at, MentionBelow, mentions_below, journal_below, keeps_with_more}
+use Rattle.load_keeper.proofs.Whole.{IsWholeEntry}
+use Rattle.load_keeper.proofs.Known.{BearsAs, keeps_about, keeps_about_nobody}
+use Rattle.load_keeper.proofs.Numbers.{none_at, mentions_below, journal_below, keeps_with_more}
 
 -- the same question
 changed_alike : (f : Fate) → is_changed f ≡ is_changed_address f
@@ -175,12 +176,12 @@ module _ (ls : List (Option Load)) (H : List Full) (n : ℕ) (a : Node) (r : Ful
     of_entry (client x) same e at w about source packet = in_client ls H n a r l counted later s d e at r.fate w from source keeps same packet peer about (is_changed_address r.fate) refl
     of_entry (relay x) same e at w about source packet = in_relay ls H n a r l counted later s d e at r.fate w from source keeps same packet peer about
 
-    by_entry : (o : Option Entry) → r.entry ≡ o → IsEntryOf (effect_at (Some a) r.fate) r peer from o → (is_some o ≡ false → is_new_address (Some a) r.fate ≡ false)
+    by_entry : (o : Option Entry) → r.entry ≡ o → IsWholeEntry (effect_at (Some a) r.fate) r peer from o → (is_some o ≡ false → is_new_address (Some a) r.fate ≡ false)
         → KeepsLoadsOf (ls ++ l ∷ []) (mentions_by a (with_entries (journal n (with_record_numbers H)) (option_map (with_number (length H)) o)).entries) r.moment
         (if is_new_address (Some a) r.fate then nothing_kept else after_effect_on (effect_at (Some a) r.fate) peer r.moment from l s)
     by_entry None is none stays = rw (stays refl, none.0) (still ls H n a r l counted later s keeps r.moment later)
     by_entry (Some e) is some stays = of_entry a refl e some.0 some.1 some.2 some.3 (subst (λ (o : Option Ep). KeepsItsPacket (effect_at (Some a) r.fate) e.packet o) (sym some.3) some.4)
 
-    pub step_of_own : IsEntryOf (effect_at (Some a) r.fate) r peer from r.entry → (is_some r.entry ≡ false → is_new_address (Some a) r.fate ≡ false)
+    pub step_of_own : IsWholeEntry (effect_at (Some a) r.fate) r peer from r.entry → (is_some r.entry ≡ false → is_new_address (Some a) r.fate ≡ false)
         → KeepsLoadsOf (ls ++ l ∷ []) (numbered_mentions (r ∷ H) n a) r.moment (kept_after (Some a) (record_of r) peer from l s)
     step_of_own entry stays = rw (its, on) (by_entry r.entry refl entry stays)

@@ -1,25 +1,30 @@
 -- The loads of a history, as they are kept outside of its nodes.
-use Rattle.std.specs.Prelude.{◌≡◌, ◌≤◌, ◌<◌, ℕ, true, false, nat_eq, if◌then◌else◌, List, [], length, map, get_or, Option, Some, None, option_and_then, option_map, is_some, unwrap_or}
+use Rattle.std.specs.Prelude.{◌≡◌, ◌≤◌, ◌<◌, ◌||◌, ℕ, Bool, true, false, nat_eq, if◌then◌else◌, List, length, map, get_or, Option, Some, None, is_some}
 use Rattle.std.specs.List.{AllByRecursion}
 use Rattle.td_base.specs.declared.endpoint.Ep.{Ep}
 use Rattle.td_base.specs.declared.ipv6.Ip6.{Ip6}
+use Rattle.teredo_node.specs.declared.fate.Fate.{Fate}
 use Rattle.teredo_node.specs.Journal.{Entry}
 use Rattle.client_rules.specs.Bearings.{source_of}
 use Rattle.topology.specs.Rows.{TopologyState}
 use Rattle.topology.specs.declared.node.Node.{Node}
+use Rattle.topology.specs.declared.node.Node.TheVariants.{Client as client, Relay as relay}
+use Rattle.topology.specs.declared.topology.TheConstants.{NODES_MAX}
 use Rattle.topology.specs.Topology.{nodes, node_at}
 use Rattle.history.specs.declared.records.Record.{Record}
 use Rattle.history.specs.Full.{Full}
 use Rattle.history.specs.Records.{record_of}
 use Rattle.legal.specs.Past.{now}
 use Rattle.legal.specs.Laws.{IsAskedFor}
+use Rattle.states.specs.PeerFates.{changes_peer, changes_client}
 use Rattle.loads.specs.Numbered.{numbered_mentions}
 use Rattle.loads.specs.declared.load.Load.{Load}
-use Rattle.loads.specs.Loads.{loads}
+use Rattle.loads.specs.Loads.{releases_all, loads}
+use Rattle.loads.specs.Sayings.{gives_up}
 use Rattle.load_keeper.specs.declared.node_loads.NodeLoads.{NodeLoads}
 use Rattle.load_keeper.specs.declared.load_keeper.LoadKeeper.{LoadKeeper}
 use Rattle.load_keeper.specs.declared.effect.Effect.{Effect}
-use Rattle.load_keeper.specs.declared.effect.Effect.TheVariants.{Nothing, Touches, Queues, Hears, Tests, Holds, GivesUp}
+use Rattle.load_keeper.specs.declared.effect.Effect.TheVariants.{Queues, Tests, Holds}
 use Rattle.load_keeper.specs.Kept.{NodeKept, nothing_kept, node_kept, KeepsLoadsOf}
 use Rattle.load_keeper.specs.Hearing.{effect_at, is_new_address, kept_after}
 
@@ -34,6 +39,7 @@ pub record StandsForLoads (t : TopologyState) (k : LoadKeeper) (H : List Full) :
   pub packets : k.packets ≡ (loads t H).packets
   pub wire : k.wire.items ≡ (loads t H).wire
   pub count : length k.nodes.items ≡ length (nodes t)
+  pub few : length k.nodes.items ≤ NODES_MAX
   pub each : (n : ℕ) (a : Node) → node_at t n ≡ Some a
       → KeepsLoadsOf (loads t H).records (numbered_mentions H n a) (now H) (kept_at k.nodes.items (Some n))
 
@@ -44,28 +50,44 @@ KeepsItsPacket Tests packet from = (is_some packet ≡ true) × (is_some from �
 KeepsItsPacket Holds packet from = (is_some packet ≡ true) × (is_some from ≡ true)
 KeepsItsPacket _ packet from = Unit {0}
 
--- what a node did, of which this is the peer, and where its datagram came from; where it did nothing, both are missing
-abbrev pub IsEntryOf : Effect → Full → Option Ip6 → Option Ep → Option Entry → Type 0
-IsEntryOf x r peer from None = (peer ≡ None) × (from ≡ None)
-IsEntryOf x r peer from (Some e) =
-    (e.moment ≡ r.moment) × (e.step.fate ≡ r.fate) × (e.peer ≡ peer) × (source_of e.input ≡ from) × KeepsItsPacket x e.packet from
+-- This is the peer of what a node did, and there its datagram came from; where it did nothing, both are missing.
+abbrev pub IsPeerOf : Option Ip6 → Option Ep → Option Entry → Type 0
+IsPeerOf peer from None = (peer ≡ None) × (from ≡ None)
+IsPeerOf peer from (Some e) = (e.peer ≡ peer) × (source_of e.input ≡ from)
+
+-- What a node did is that of its record; and what that means keeps a packet only where there is one.
+abbrev pub IsEntryOf : Effect → Full → Option Entry → Type 0
+IsEntryOf x r None = Unit {0}
+IsEntryOf x r (Some e) = (e.moment ≡ r.moment) × (e.step.fate ≡ r.fate) × KeepsItsPacket x e.packet (source_of e.input)
 
 -- the node of a number, if there is one
 abbrev pub node_if : TopologyState → Option ℕ → Option Node
 node_if t None = None
 node_if t (Some n) = node_at t n
 
--- What is heard of a record is what it was: its line's record, the peer that it is about, and where its datagram came from.
-pub record IsHeard (t : TopologyState) (H : List Full) (r : Full) (said : Record) (peer : Option Ip6) (from : Option Ep) : Type 0 where
+-- By this fate a record changes what its node keeps of a peer.
+abbrev pub changes_at : Option Node → Fate → Bool
+changes_at (Some (client c)) f = changes_peer f
+changes_at (Some (relay q)) f = changes_client f
+changes_at _ f = false
+
+-- The record is of a peer: what waits for it is released or dropped, or what its node keeps of it changes.
+abbrev pub is_of_peer : Option Node → Fate → Bool
+is_of_peer a f = changes_at a f || (releases_all f || gives_up f)
+
+-- What is told of a record is what it was: its line's record; and where it is of a peer, the peer, and where its datagram came from.
+pub record IsToldOf (t : TopologyState) (H : List Full) (r : Full) (said : Record) (peer : Option Ip6) (from : Option Ep) : Type 0 where
   pub told : record_of r ≡ said
   pub later : now H ≤ r.moment
   pub delivers : IsAskedFor H r
-  pub entry : IsEntryOf (effect_at (node_if t r.node) r.fate) r peer from r.entry
+  pub entry : IsEntryOf (effect_at (node_if t r.node) r.fate) r r.entry
+  pub about : is_of_peer (node_if t r.node) r.fate ≡ true → IsPeerOf peer from r.entry
   pub changed : is_some r.entry ≡ false → is_new_address (node_if t r.node) r.fate ≡ false
 
--- These are as many lists as there are nodes, and hold nothing.
+-- These are as many lists as there are nodes, no more than a topology has, and hold nothing.
 pub record AreEmpty (t : TopologyState) (ns : List NodeLoads) : Type 0 where
   pub count : length ns ≡ length (nodes t)
+  pub few : length ns ≤ NODES_MAX
   pub each : AllByRecursion (λ (s : NodeLoads). node_kept s ≡ nothing_kept) ns
 
 -- what each node keeps after a record: that of the record's node, what it keeps then, and every other what it kept

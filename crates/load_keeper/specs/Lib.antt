@@ -2,3 +2,4 @@ pub mod Effects
 pub mod Kept
 pub mod Hearing
 pub mod Keeper
+pub mod Queries

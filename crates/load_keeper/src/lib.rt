@@ -27,6 +27,7 @@
 //! | `ways`, `says` | what a fate does with a load, and what is said of it | `specs/Hearing.antt` |
 //! | `in_order`, `heard` | what a record says of all that its node keeps | `specs/Hearing.antt` |
 //! | `load_keeper` | `LoadKeeper` | `specs/Keeper.antt` |
+//! | `queries` | where a load waits, and where it is held | `specs/Queries.antt` |
 //!
 //! # Beside the clauses
 //!
@@ -41,6 +42,7 @@ mod kept_load;
 mod load_keeper;
 mod node_loads;
 mod node_record;
+mod queries;
 mod says;
 mod touch;
 mod ways;

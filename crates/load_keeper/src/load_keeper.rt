@@ -5,7 +5,7 @@ ghost use Rattle.loads.specs.Loads.{is_handing_in, load_at, loads};
 ghost use Rattle.loads.specs.Sayings.{sayings_of};
 ghost use Rattle.load_keeper.specs.Hearing.{load_by_act, load_that_goes_on, entries_by_marks, entry_by_mark};
 ghost use Rattle.load_keeper.specs.Kept.{node_kept, nothing_kept};
-ghost use Rattle.load_keeper.specs.Keeper.{kept_at, AreEmpty, AreKeptAfter, StandsForLoads, IsHeard};
+ghost use Rattle.load_keeper.specs.Keeper.{kept_at, AreEmpty, AreKeptAfter, StandsForLoads, IsToldOf};
 
 use crate::node_loads::NodeLoads;
 use crate::ways::{is_handing_in, load_that_goes_on, number_delivered};
@@ -22,9 +22,9 @@ pub struct LoadKeeper {
     /// How many packets hosts handed in.
     packets: u32,
     /// What each entry of the wire carries.
-    wire: Vec<Option<Load>>,
+    pub(crate) wire: Vec<Option<Load>>,
     /// What each node keeps, by its number.
-    nodes: Vec<NodeLoads>,
+    pub(crate) nodes: Vec<NodeLoads>,
 }
 
 /// What the entry of a mark carries, put behind the others.
@@ -173,7 +173,8 @@ impl LoadKeeper {
     }
 
     /// Brings the keeper to what it is after a record, and puts what that says of loads in place of what the list held. `peer`
-    /// is the peer that the record is about, and `from` is where its datagram came from.
+    /// is the peer that the record is about, and `from` is where its datagram came from: of a record that is of no peer both may be
+    /// anything.
     pub fn hear(
         &mut self,
         t: &Topology,
@@ -184,8 +185,8 @@ impl LoadKeeper {
     ) -> Result<(), NoMemory>
         /// For every history that a keeper stands for, `hear` gives what the next record says of each load that it concerns, in
         /// order, and then the keeper stands for the history with that record.
-        /// Needs: that peer and endpoint are the record's.
-        ensures { (H : List Full) (r : Full) → StandsForLoads t.now self.old H → IsHeard t.now H r record.now peer from
+        /// Needs: that peer and endpoint are the record's, where it is of a peer.
+        ensures { (H : List Full) (r : Full) → StandsForLoads t.now self.old H → IsToldOf t.now H r record.now peer from
             → OnOk result (StandsForLoads t.now self.new (r ∷ H) × (said.new.items ≡ sayings_of t.now H (loads t.now H) r)) }
     {
         said.clear();
