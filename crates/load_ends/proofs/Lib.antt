@@ -1,0 +1,9 @@
+mod Words
+mod Below
+mod Unsaid
+mod Rows
+mod Changing
+mod Hearing
+mod Entries
+mod Places
+mod Told
