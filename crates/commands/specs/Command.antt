@@ -1,7 +1,7 @@
 -- The words of the command line, and the command that they are.
 use Rattle.std.specs.Prelude.{◌≡◌, ℕ, List, [], ◌∷◌, codes, Option, Some, None}
 use Rattle.commands.specs.declared.command.Command.{Command}
-use Rattle.commands.specs.declared.command.Command.TheVariants.{Lab, Serve, Show, Gen, Wire, Audit, Explain, Qualify, Nested, Reach, State}
+use Rattle.commands.specs.declared.command.Command.TheVariants.{Lab, Serve, Show, Gen, Wire, Audit, Explain, Qualify, Nested, Reach, Follow, State}
 use Rattle.commands.specs.declared.serve_words.ServeWords.{ServeWords}
 use Rattle.commands.specs.ServeWords.{Asks}
 use Rattle.commands.specs.declared.audit_words.AuditWords.{AuditWords}
@@ -23,6 +23,7 @@ pub data Request : Type 0 where
   qualify : (words : Asked) → Request
   nested : (file chain : List ℕ) → Request
   reach : (file chain : List ℕ) → Request
+  follow : (file chain : List ℕ) → Request
   state : (file chain : List ℕ) → Request  -- after each record
 
 -- the words ask for this: each has one spelling
@@ -37,6 +38,7 @@ AsksFor words (explain asked file) = AsksToAudit (codes "explain") words asked f
 AsksFor words (qualify asked) = AsksToQualify words asked
 AsksFor words (nested file chain) = words ≡ codes "nested" ∷ file ∷ chain ∷ []
 AsksFor words (reach file chain) = words ≡ codes "reach" ∷ file ∷ chain ∷ []
+AsksFor words (follow file chain) = words ≡ codes "follow" ∷ file ∷ chain ∷ []
 AsksFor words (state file chain) = words ≡ codes "state" ∷ file ∷ chain ∷ codes "each" ∷ []
 
 -- the command that the words are, or that they are none
@@ -56,6 +58,7 @@ request_of (Explain words file) = explain words file.now
 request_of (Qualify words) = qualify words
 request_of (Nested file chain) = nested file.now chain.now
 request_of (Reach file chain) = reach file.now chain.now
+request_of (Follow file chain) = follow file.now chain.now
 request_of (State file chain) = state file.now chain.now
 
 -- a fact of the source, at each command that leaves it alone
@@ -66,6 +69,7 @@ LeavesSource (Some (audit words file)) fact = Unit {0}
 LeavesSource (Some (explain words file)) fact = Unit {0}
 LeavesSource (Some (nested file chain)) fact = Unit {0}
 LeavesSource (Some (reach file chain)) fact = Unit {0}
+LeavesSource (Some (follow file chain)) fact = Unit {0}
 LeavesSource (Some (state file chain)) fact = Unit {0}
 LeavesSource _ fact = fact
 

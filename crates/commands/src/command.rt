@@ -31,6 +31,8 @@ pub enum Command<'a> {
     Nested { file: &'a str, chain: &'a str },
     /// Plays the scenario of a file with NATs behind others, and says who reaches whom.
     Reach { file: &'a str, chain: &'a str },
+    /// Plays the scenario of a file with NATs behind others, and says where each packet of a host went.
+    Follow { file: &'a str, chain: &'a str },
     /// Plays the scenario of a file with NATs behind others, and says after each record what it changed of what nodes keep.
     State { file: &'a str, chain: &'a str },
 }
@@ -69,6 +71,12 @@ fn with_two<'a>(command: &str, first: &'a str, second: &'a str) -> Option<Comman
     }
     if command == "reach" {
         return Some(Command::Reach {
+            file: first,
+            chain: second,
+        });
+    }
+    if command == "follow" {
+        return Some(Command::Follow {
             file: first,
             chain: second,
         });

@@ -33,7 +33,7 @@ fn hint_at(status: u8, is_unread: bool) -> Option<&'static str> {
             "the turns were over first: a turn lasts 20 ms at most, and a datagram ends one sooner; a whole qualification takes 36 seconds at most, 1,800 turns where nothing else comes",
         ),
         BAD_WORDS => Some(
-            "the words are `lab FILE`, `wire FILE`, `show HEX`, `gen SEED COUNT`, `serve IP1 IP2 COUNT IDLES`, `audit IP1 IP2 FILE`, `explain IP1 IP2 FILE`, `qualify INSIDE IP1 IP2 SEED TURNS`, `nested FILE CHAIN`, `reach FILE CHAIN` or `state FILE CHAIN each`",
+            "the words are `lab FILE`, `wire FILE`, `show HEX`, `gen SEED COUNT`, `serve IP1 IP2 COUNT IDLES`, `audit IP1 IP2 FILE`, `explain IP1 IP2 FILE`, `qualify INSIDE IP1 IP2 SEED TURNS`, `nested FILE CHAIN`, `reach FILE CHAIN`, `follow FILE CHAIN` or `state FILE CHAIN each`",
         ),
         BAD_SCENARIO => Some(
             "the scenario is refused (`key`: missing or unknown; `name`: unknown, ill-formed or taken; `range`: not allowed, or taken): `./teredo lint FILE` shows the line",
@@ -62,8 +62,8 @@ fn hint_at(status: u8, is_unread: bool) -> Option<&'static str> {
 // How many words `qualify` has: its link is at the first of them.
 const QUALIFY_WORDS: usize = 6;
 
-/// Whether the file is the word behind the command: `nested` and `reach` have three words, and no other command that takes a
-/// file; and `state` has four, as `audit` and `explain`.
+/// Whether the file is the word behind the command: `nested`, `reach` and `follow` have three words, and no other command that
+/// takes a file; and `state` has four, as `audit` and `explain`.
 fn has_file_first(words: &[String]) -> bool {
     match words {
         [_, _, _] => true,
@@ -73,7 +73,7 @@ fn has_file_first(words: &[String]) -> bool {
 }
 
 /// Which words of the command line a status is about, by the first one and the one behind. A file is the last word of its
-/// command, but for `nested`, `reach` and `state`, where it stands before the chain.
+/// command, but for `nested`, `reach`, `follow` and `state`, where it stands before the chain.
 fn span_of(status: u8, count: usize, is_file_first: bool) -> (usize, usize) {
     match status {
         BAD_WORDS => (0, 1),

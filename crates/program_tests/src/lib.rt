@@ -23,6 +23,7 @@
 //! | `captures` | `run` on `wire`, `audit` and `explain` |
 //! | `nested` | `run` on `nested` |
 //! | `reach` | `run` on `reach`, with a source and a sink that fail |
+//! | `followed_packets` | `run` on `follow`, with a source and a sink that fail |
 //! | `kept_states` | `run` on `state`, with a source and a sink that fail |
 //! | `refusals` | `run` on `lab`, with bytes that are no text, and with too many |
 //! | `arrivals` | `run` on `serve`, over a link in memory |
@@ -47,6 +48,8 @@ mod cuts;
 mod failing_sends;
 #[cfg(test)]
 mod files_and_words;
+#[cfg(test)]
+mod followed_packets;
 #[cfg(test)]
 mod full_wires;
 #[cfg(test)]

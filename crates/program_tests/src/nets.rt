@@ -48,3 +48,24 @@ inside = "10.0.0.3:4000"
 server = "s1"
 refresh = [30000, 30000]
 "#;
+
+pub const RELAY: &str = r#"
+[[relay]]
+name = "r1"
+at = "203.0.113.9:3545"
+six = "2001:db8::9"
+"#;
+
+pub const NATIVE: &str = r#"
+[[native]]
+name = "h1"
+six = "2001:db8::1"
+relay = "r1"
+"#;
+
+pub const OTHER_NATIVE: &str = r#"
+[[native]]
+name = "h2"
+six = "2001:db8::2"
+relay = "r1"
+"#;

@@ -5,4 +5,4 @@ mod WireHeld
 pub mod Generated
 pub mod Nested
 pub mod Reach
-pub mod StateEnded
+pub mod ChainEnded

@@ -32,6 +32,7 @@ pub use Rattle.theory_promises.proofs.LawProofs.{kept_in_scenarios}
 pub use Rattle.theory_promises.specs.Kept.{IsKeptSoFar}
 pub use Rattle.reach_query.specs.ReachAccount.{reach_account}
 pub use Rattle.state_writer.specs.StateAccount.{state_account}
+pub use Rattle.follow_writer.specs.FollowAccount.{follow_account}
 pub use Rattle.scenario.specs.Refusals.{refusal_line}
 unfoldable pub use Rattle.scenario.specs.Scenario.{scenario_of}
 pub use Rattle.scenario.specs.Told.{told}
@@ -43,15 +44,17 @@ pub use Rattle.commands.specs.Outside.{NoFault}
 pub use Rattle.commands.specs.SourceText.{IsFrontOf, IsTextOf, Opened, unread_status}
 pub use Rattle.commands.specs.declared.gen_words.GenWords.{GenWords}
 pub use Rattle.commands.specs.declared.source_text.ReadFault.{ReadFault}
+pub use Rattle.teredo_app.specs.ChainEndings.{TellsIn, none_to_ask, not_started, told_in}
+pub use Rattle.teredo_app.specs.ChainEnds.{ChainBegins, ChainCommand, ChainEnds, of_account, of_no_scenario, of_unchained}
 pub use Rattle.teredo_app.specs.Endings.{NotPlayed, not_kept, not_read, not_taken, status_of}
 pub use Rattle.teredo_app.specs.Ends.{GenEnds, PlayBegins, PlayEnds, PlaysAll, WireEnds, asked_for}
+pub use Rattle.teredo_app.specs.Follow.{follow_command}
 pub use Rattle.teredo_app.specs.Nested.{NestedBegins, NestedEnds, Nests, NestsNot, of_reason, of_refusal, of_report}
 pub use Rattle.teredo_app.specs.NestedEndings.{NoChainsFor, PlaysIn, no_chains, not_fit, not_held, played_in}
 pub use Rattle.teredo_app.specs.NestedLine.{not_nested_line}
 pub use Rattle.teredo_app.specs.Reach.{ReachBegins, ReachEnds, ReadsWithChain, ReadsWithoutChain, SaysWords, no_chain_line, of_bad_text, of_no_chain, of_words}
 pub use Rattle.teredo_app.specs.ReachEndings.{KeepsWords, SaysIn, ScenariosKeepWords, none_asked, not_begun, said_in}
 pub use Rattle.teredo_app.specs.Reads.{IsNamedText, Reads, ReadsKept}
-pub use Rattle.teredo_app.specs.State.{StateBegins, StateEnds, no_chain_told, of_no_scenario, of_states, of_unchained}
-pub use Rattle.teredo_app.specs.StateEndings.{TellsIn, none_to_ask, not_started, told_in}
+pub use Rattle.teredo_app.specs.State.{state_command}
 pub use Rattle.teredo_app.specs.declared.nested_file.NoChains.{NoChains}
 pub use Rattle.teredo_app.specs.declared.nested_line.NotNested.{NotNested}

@@ -30,8 +30,9 @@ use Rattle.commands.specs.Show.{ShowEnds}
 use Rattle.commands.specs.Qualify.{QualifyEnds}
 use Rattle.teredo_app.specs.Nested.{NestedEnds}
 use Rattle.teredo_app.specs.Reach.{ReachEnds}
+use Rattle.teredo_app.specs.Follow.{FollowEnds}
 use Rattle.teredo_app.specs.State.{StateEnds}
-use Rattle.commands.specs.Command.{Request, lab, serve, show, gen, wire, audit, explain, qualify, nested, reach, state}
+use Rattle.commands.specs.Command.{Request, lab, serve, show, gen, wire, audit, explain, qualify, nested, reach, follow, state}
 use Rattle.commands.specs.declared.gen_words.GenWords.{GenWords}
 
 -- the line of words that are no command
@@ -42,15 +43,16 @@ bad_words = codes "words\n"
 pub record PlaysAll (a : Account) (i : SourceState) (o o' : SinkState) (file : List ℕ) : Type 0 where
   pub scenario : Scenario
   pub reads : Reads i file (Ok scenario)
-  -- | On `lab`, `wire`, `nested`, `reach`, `state` and `gen` a packet with a Teredo source that a client's host was handed, or
-  --   that came to a native host, came from the endpoint that the source embeds; one from outside Teredo that a
-  --   client's host was handed came from a relay, for the native host that had sent it, or a named event put it there;
+  -- | On `lab`, `wire`, `nested`, `reach`, `follow`, `state` and `gen` a packet with a Teredo source that a client's
+  --   host was handed, or that came to a native host, came from the endpoint that the source embeds; one from outside
+  --   Teredo that a client's host was handed came from a relay, for the native host that had sent it, or a named event
+  --   put it there;
   --   and an address that a client got, where nobody speaks for its server, embeds its NAT's address, and a port that
   --   the NAT then held for it, or along several NATs leads to it. This holds at each record of the history that was
   --   played: with 0, and with 5, 7 and 8 of the records whose lines were written. Either a `stranger` or a `copy` put
   --   the packet there, or a client's host had handed it in, byte for byte, while that source was the client's address,
   --   and it left that client's outermost NAT from there. It is stated in `Reads.antt`, `Ends.antt`, `Nested.antt`,
-  --   `Reach.antt`, `State.antt`, with what that is in `theory_promises/Kept.antt`, and the histories in `player/Endings.antt`.
+  --   `Reach.antt`, `ChainEnds.antt`, with what that is in `theory_promises/Kept.antt`, and the histories in `player/Endings.antt`.
   --   Needs: for the address, that no `stranger` and no `copy` has one of the two endpoints of the client's server as
   --   its source.
   --   Leaves open: who speaks for a relay; that nobody else had the address, since a port may be given again; that
@@ -70,7 +72,7 @@ PlayBegins a i o o' file =
 pub record PlayEnds (a : Account) (i i' : SourceState) (o o' : SinkState) (file : List ℕ) (status : ℕ) : Type 0 where
   pub statuses : Contains (DONE ∷ BAD_SCENARIO ∷ UNREADABLE ∷ UNWRITABLE ∷ NO_MEMORY ∷ WIRE_FULL ∷ []) status
   -- the file alone was opened, once, and no more of it was read than a text may have, and one byte
-  -- | `lab`, `wire`, `nested` and `reach` open only FILE, once, and take 4,194,305 bytes at most.
+  -- | `lab`, `wire`, `nested`, `reach`, `follow` and `state` open only FILE, once, and take 4,194,305 bytes at most.
   pub opened : Gains i.openings i'.openings file
   -- | See `PlayEnds`: `opened`.
   pub taken : TakesAtMost TEXT_READ_MAX i.taken i'.taken
@@ -79,28 +81,29 @@ pub record PlayEnds (a : Account) (i i' : SourceState) (o o' : SinkState) (file 
   -- | See `NestedEnds`: `refused`.
   pub done : status ≡ DONE → NoFault i i' o o' × PlaysAll a i o o' file
   -- nothing failed, the text is refused, and the line of its first refusal was written
-  -- | 3: only on `lab`, `wire`, `nested` and `reach`, where the text is refused; the line of its first refusal was
-  --   written. It is stated in `Ends.antt`, `Nested.antt`, `Reach.antt`, with the refusal in `scenario/Scenario.antt`
-  --   and its line in `scenario/Refusals.antt`.
+  -- | 3: only on `lab`, `wire`, `nested`, `reach`, `follow` and `state`, where the text is refused; the line of its
+  --   first refusal was written. It is stated in `Ends.antt`, `Nested.antt`, `Reach.antt`, `ChainEnds.antt`, with the
+  --   refusal in `scenario/Scenario.antt` and its line in `scenario/Refusals.antt`.
   -- | See `NestedEnds`: `refused`.
   pub refused : status ≡ BAD_SCENARIO → NoFault i i' o o' × ((fault : ScenarioFault) × Reads i file (Err fault) × WritesLines o o' (refusal_line fault ∷ []))
   -- the source failed, and nothing was written
-  -- | 4: only on `lab`, `wire`, `nested`, `reach`, `audit` and `explain`, where the source's count rose; nothing was
-  --   written.
+  -- | 4: only on `lab`, `wire`, `nested`, `reach`, `follow`, `state`, `audit` and `explain`, where the source's count
+  --   rose; nothing was written.
   -- | See `NestedEnds`: `refused`.
   pub unread : status ≡ UNREADABLE → Rose i.faults i'.faults × (o'.faults ≡ o.faults) × WritesNothing o o'
   -- the sink failed, the source didn't, and a front was written of what was to be written
   -- | 5: only where the sink's count rose; only a first part of what was to be written was written. It is stated in
-  --   `Ends.antt`, `Nested.antt`, `Reach.antt`, `player/Endings.antt`, and those of `commands`.
+  --   `Ends.antt`, `Nested.antt`, `Reach.antt`, `ChainEnds.antt`, `player/Endings.antt`, and those of `commands`.
   -- | See `NestedEnds`: `refused`.
   pub unwritten : status ≡ UNWRITABLE → Rose o.faults o'.faults × (i'.faults ≡ i.faults) × PlayBegins a i o o' file
   -- memory ran out, nothing failed, and nothing was written; or it ran out for a record that may want some, and the
   -- lines of those before it were written, whole, and nothing else
-  -- | 7: only on `lab`, `wire`, `nested`, `reach`, `gen`, `audit` and `explain`, where no count rose; nothing was
-  --   written, or on `lab`, `wire` and `nested` what comes of the records before one that may need memory, or on
-  --   `explain` the lines of some first records of FILE. On `lab`, `wire` and `nested`, once something was written: the
-  --   next record of the legal history has a mark, or a packet waits or is held, or a peer is trusted in it, and what
-  --   was written are the lines of all records before it, whole, and nothing else. `reach` and `gen` write nothing
+  -- | 7: only on `lab`, `wire`, `nested`, `reach`, `follow`, `state`, `gen`, `audit` and `explain`, where no count rose;
+  --   nothing was written, or on `lab`, `wire`, `nested`, `follow` and `state` what comes of the records before one that
+  --   may need memory, or on `explain` the lines of some first records of FILE. On `lab`, `wire`, `nested` and `state`,
+  --   once something was written: the next record of the legal history has a mark, or a packet waits or is held, or a
+  --   peer is trusted in it, and what was written are the lines of all records before it, whole, and nothing else. On
+  --   `follow` that record may be any, since hearing of it may need memory. `reach` and `gen` write nothing
   --   before all was played, so that nothing is said of their history: memory may be wanting before its first record,
   --   and no clause tells that from lack of it later. It is stated in `Ends.antt`, `commands/Explain.antt`,
   --   `player/Endings.antt`, with when a record may need memory in `world/World.antt`.
@@ -109,9 +112,9 @@ pub record PlayEnds (a : Account) (i i' : SourceState) (o o' : SinkState) (file 
       × (WritesNothing o o' ⊎ ((s : Scenario) × ReadsKept i file s [] × WritesStarved a s [] o o'))
   -- nothing failed; the next record would make too long a wire; the lines of those before it were written, and those
   -- that say so
-  -- | 8: only on `lab`, `wire`, `nested`, `reach` and `gen`, where the next record would make entry 65,537; on `lab`
-  --   and `nested` the lines of those before it were written, and then `wire full`; on `wire` the capture of all their
-  --   entries, and nothing more; on the others `wire full` alone.
+  -- | 8: only on `lab`, `wire`, `nested`, `reach`, `follow`, `state` and `gen`, where the next record would make entry
+  --   65,537; on `lab`, `nested`, `follow` and `state` the lines of those before it were written, and then `wire full`;
+  --   on `wire` the capture of all their entries, and nothing more; on the others `wire full` alone.
   -- | See `NestedEnds`: `refused`.
   pub full : status ≡ WIRE_FULL → NoFault i i' o o' × ((s : Scenario) × ReadsKept i file s [] × WritesFull a s [] o o')
 
@@ -187,6 +190,7 @@ RunEnds a b (Some (explain asked file)) status = ExplainEnds a.source b.source a
 RunEnds a b (Some (qualify asked)) status = QualifyEnds a.sink b.sink a.link b.link a.clock b.clock asked status
 RunEnds a b (Some (nested file chain)) status = NestedEnds a.source b.source a.sink b.sink file chain status
 RunEnds a b (Some (reach file chain)) status = ReachEnds a.source b.source a.sink b.sink file chain status
+RunEnds a b (Some (follow file chain)) status = FollowEnds a.source b.source a.sink b.sink file chain status
 RunEnds a b (Some (state file chain)) status = StateEnds a.source b.source a.sink b.sink file chain status
 RunEnds a b None status = WordsEnd a.sink b.sink status
 

@@ -2,10 +2,12 @@ pub mod Reads
 pub mod NestedLine
 pub mod Nested
 pub mod Reach
+pub mod ChainEnds
+pub mod Follow
 pub mod State
 pub mod Ends
 pub mod Endings
 pub mod NestedEndings
 pub mod ReachEndings
-pub mod StateEndings
+pub mod ChainEndings
 pub mod Numbers

@@ -80,8 +80,8 @@ pub record NestedEnds (i i' : SourceState) (o o' : SinkState) (file text : List 
   -- | See `NestedEnds`: `refused`.
   pub not_nested : status ≡ NOT_NESTED → NoFault i i' o o' × ((why : NotNested) × NestsNot i file text why × WritesLines o o' (not_nested_line why ∷ []))
   -- nothing failed, the text is refused, and the line of its first refusal was written
-  -- | On `lab`, `wire`, `nested` and `reach` the counts of source and sink stayed with every status but 4 and 5; with 4
-  --   the sink's stayed, and with 5 the source's. This holds also of a source and a sink that tell nothing, as the real
+  -- | On `lab`, `wire`, `nested`, `reach`, `follow` and `state` the counts of source and sink stayed with every status but
+  --   4 and 5; with 4 the sink's stayed, and with 5 the source's. This holds also of a source and a sink that tell nothing, as the real
   --   ones do. For 7 `starved` says it.
   -- | See `PlayEnds`: `refused`.
   pub refused : status ≡ BAD_SCENARIO → NoFault i i' o o' × ((fault : ScenarioFault) × Reads i file (Err fault) × WritesLines o o' (refusal_line fault ∷ []))

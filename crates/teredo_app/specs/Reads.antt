@@ -19,7 +19,7 @@ Reads i file answer = (text : List ℕ) × IsNamedText (i.stands_for file) text 
 -- was played.
 pub record ReadsKept (i : SourceState) (file : List ℕ) (s : Scenario) (chain : List Behind) : Type 0 where
   pub reads : Reads i file (Ok s)
-  -- | Of the histories that `lab`, `wire`, `nested`, `reach` and `gen` play: what a client that nothing disturbs along
+  -- | Of the histories that `lab`, `wire`, `nested`, `reach`, `follow`, `state` and `gen` play: what a client that nothing disturbs along
   --   its way makes of its NATs is right, and its address stays; what such a client asks tells it what its NATs are,
   --   where the answer is delivered at once; settled clients have different endpoints in their addresses; deliveries
   --   alone end; and the first packet between two settled clients whose outermost NATs differ arrives in every schedule

@@ -4,6 +4,7 @@ ghost use Rattle.events.specs.declared.event.TheConstants.{EVENTS_MAX};
 ghost use Rattle.commands.specs.Command.{Request, IsCommand, LeavesSource, LeavesNetwork};
 ghost use Rattle.teredo_app.specs.Ends.{GenEnds, RunEnds};
 
+use crate::follow_file::follow;
 use crate::generated_scenario::generated_scenario;
 use crate::nested_file::nested;
 use crate::reach_file::reach;
@@ -50,14 +51,14 @@ pub fn run<S: Source, K: Sink, L: Link, C: Clock>(
     clock: &mut C,
 ) -> u8
     /// - The words are a command exactly where they are spelled as one.
-    /// - `lab`, `nested`, `reach`, `state` and `gen` end, for all arguments. It goes through the events in their order, and
+    /// - `lab`, `nested`, `reach`, `follow`, `state` and `gen` end, for all arguments. It goes through the events in their order, and
     ///   through the records of each by what is left of it, which falls with each further one.
     ///   Leaves open: how long it takes.
     ensures ends { (asked : Option Request) → IsCommand (map string_bytes words.now.items) asked → RunEnds
         (record { source = S.state src.old; sink = K.state out.old; link = L.state link.old; clock = C.state clock.old })
         (record { source = S.state src.new; sink = K.state out.new; link = L.state link.new; clock = C.state clock.new }) asked result }
-    /// Only `lab`, `wire`, `nested`, `reach`, `state`, `audit` and `explain` touch the source, and only `serve` and
-    /// `qualify` the link and the clock.
+    /// Only `lab`, `wire`, `nested`, `reach`, `follow`, `state`, `audit` and `explain` touch the source, and only `serve`
+    /// and `qualify` the link and the clock.
     ensures source { (asked : Option Request) → IsCommand (map string_bytes words.now.items) asked → LeavesSource asked (src.new ≡ src.old) }
     /// See `source`.
     ensures network { (asked : Option Request) → IsCommand (map string_bytes words.now.items) asked
@@ -77,6 +78,7 @@ pub fn run<S: Source, K: Sink, L: Link, C: Clock>(
         Command::Qualify(asked) => qualify_at(alloc, &asked, out, link, clock),
         Command::Nested { file, chain } => nested(alloc, file, chain, src, out),
         Command::Reach { file, chain } => reach(alloc, file, chain, src, out),
+        Command::Follow { file, chain } => follow(alloc, file, chain, src, out),
         Command::State { file, chain } => state(alloc, file, chain, src, out),
     }
 }

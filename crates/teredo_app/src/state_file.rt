@@ -4,8 +4,8 @@ ghost use Rattle.std.specs.List.{AllByRecursion};
 ghost use Rattle.events.specs.declared.event.TheConstants.{EVENTS_MAX};
 ghost use Rattle.events.specs.Events.{IsEvent};
 ghost use Rattle.scenario.specs.Told.{told};
-ghost use Rattle.teredo_app.specs.State.{StateEnds};
-ghost use Rattle.teredo_app.specs.StateEndings.{TellsIn};
+ghost use Rattle.teredo_app.specs.State.{StateEnds, state_command};
+ghost use Rattle.teredo_app.specs.ChainEndings.{TellsIn};
 
 use crate::scenario_file::{scenario_in, status_of};
 use commands::{NO_MEMORY, NOT_NESTED, end_with};
@@ -22,7 +22,7 @@ use td_outside::{Sink, Source};
 fn tell_in<K: Sink>(room: Vec<u8>, s: &Scenario, chain: &str, out: &mut K) -> u8
     requires few { length s.now.events ≤ EVENTS_MAX }
     requires legal { AllByRecursion (IsEvent s.now.topology) s.now.events }
-    ensures { TellsIn (K.state out.old) (K.state out.new) (told s.now) chain.now result }
+    ensures { TellsIn state_command (K.state out.old) (K.state out.new) (told s.now) chain.now result }
 {
     let chains = match Chains::new(*room.allocator(), &s.topology, chain.as_bytes()) {
         Ok(chains) => chains,

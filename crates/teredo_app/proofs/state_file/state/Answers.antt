@@ -1,14 +1,14 @@
-use Rattle.teredo_app.proofs.Words.{Opened, told}
-use Rattle.teredo_app.proofs.StateEnded.{not_played_ends, scenario_ends}
+use Rattle.teredo_app.proofs.Words.{Opened, state_command, told}
+use Rattle.teredo_app.proofs.ChainEnded.{not_played_ends, scenario_ends}
 use Rattle.teredo_app.proofs.state_file.state.Goals as goal
 
 pub returns-in-Ok : goal.returns-in-Ok
 returns-in-Ok g c =
     let from : Opened 4194305 _ _ c.args.file.now = record { opened = c.scenario_in.ensures.opened; taken = c.scenario_in.ensures.taken } in
     let played = rw c.in-Ok.ensures.untouched at c.tell_in.ensures in
-    scenario_ends _ _ _ _ c.args.file.now c.args.chain.now from c.tell_in.result (told c.in-Ok.s) c.in-Ok.ensures.read c.in-Ok.ensures.promised c.in-Ok.ensures.quiet played
+    scenario_ends state_command _ _ _ _ c.args.file.now c.args.chain.now from c.tell_in.result (told c.in-Ok.s) c.in-Ok.ensures.read c.in-Ok.ensures.promised c.in-Ok.ensures.quiet played
 
 pub returns-in-Err : goal.returns-in-Err
 returns-in-Err g c =
     let from : Opened 4194305 _ _ c.args.file.now = record { opened = c.scenario_in.ensures.opened; taken = c.scenario_in.ensures.taken } in
-    not_played_ends _ _ _ _ c.args.file.now c.args.chain.now from c.in-Err.status c.in-Err.ensures.ends
+    not_played_ends state_command _ _ _ _ c.args.file.now c.args.chain.now from c.in-Err.status c.in-Err.ensures.ends
