@@ -248,8 +248,6 @@ def main():
         found, is_all = explored(task, event, options.most, pool, progress)
     progress.end()
     command.show(lines_of(found, is_all, run))
-    if run.records[0].act in HANDED_IN and run.told.note:
-        command.tell(run.told.note)
     return 0 if is_all else command.FOUND
 
 

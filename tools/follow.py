@@ -9,8 +9,7 @@ FILE is a scenario; `-` is standard input. A row is a record that a packet came 
   follow FILE --lines      the lines of the program's own `follow FILE CHAIN`
   follow FILE --json       an object a line: steps, packets, totals; docs/follow.schema.json has the keys
 
-Where the program doesn't answer `follow FILE CHAIN`, the same is told from the report and `state`, which standard error says: that is
-unproved.
+It is read from the lines of the program's own `follow FILE CHAIN`; where nothing is built the examples alone have it.
 """
 import argparse
 import json
@@ -25,7 +24,7 @@ import ends
 from fates import is_drop
 from followed import End, Followed, Packet, Step
 from told import Told, teller_of
-from trace import short, tell_note
+from trace import short
 
 HEAD = ('record', 'ms', 'node', 'fate', 'packet', 'what', 'carried by')
 
@@ -89,10 +88,10 @@ def json_of(followed: Followed, number: int | None) -> list[dict[str, Any]]:
     steps = [step_json(step) for step in followed.steps if number in (None, step.load.packet)]
     packets = [packet_json(packet) for packet in followed.packets if number in (None, packet.number)]
     if followed.totals == 'wire full':
-        return [*steps, {'wire': 'full', 'proved': followed.is_proved}]
+        return [*steps, {'wire': 'full'}]
     words = followed.totals.split(' ')[1:]
     totals = {name: int(count) for name, count in zip(words[::2], words[1::2])}
-    return [*steps, *packets, {'totals': totals, 'proved': followed.is_proved}]
+    return [*steps, *packets, {'totals': totals}]
 
 
 def main() -> int:
@@ -109,7 +108,6 @@ def main() -> int:
     else:
         lines = packet_lines(told, followed) if options.packet is None else steps_of(told, followed, options.packet)
     command.show(lines)
-    tell_note(told)
     return 0
 
 

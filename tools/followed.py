@@ -78,7 +78,6 @@ class Followed:
     steps: list[Step] = field(default_factory=list)
     packets: list[Packet] = field(default_factory=list)
     totals: str = ''
-    is_proved: bool = True  # by the program
 
     def __post_init__(self) -> None:
         self.of_record: dict[int, list[Step]] = {}

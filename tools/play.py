@@ -76,12 +76,7 @@ def why(session, words):
     told = told_of(session)
     lines = [f'{session.events()[record.event]}: {ends.end_of(told, record)}' for record in told.report.records
              if record.act in HANDED_IN and (not words or record.event == number_of(words))]
-    return lines + note_of(told) if lines else [no_packet(session, words)]
-
-
-def note_of(told):
-    """What is to be said where packets are shown of which nothing is proved."""
-    return [f'({told.note})'] if told.note else []
+    return lines if lines else [no_packet(session, words)]
 
 
 def no_packet(session, words):

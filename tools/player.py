@@ -20,6 +20,9 @@ UNPROVED = 'the sources were played as they stand, before the program was built:
 NOT_PLAYED = 'the program is not built, so the examples alone are shown, as they stand; ./teredo build builds it, once'
 
 
+STORED: dict[str, list[str]] = {'follow': [], 'state': ['each']}  # words whose answer of each example is stored, and what follows CHAIN
+
+
 class Player:
     note = ''  # what a page says of who played
 
@@ -95,26 +98,27 @@ class Player:
 
 
 class Stored:
-    """The examples as they stand, each with the report beside it, and what `state` says of it, where there is no program: nothing else is
-    played."""
+    """The examples as they stand, each with the report beside it, and what `state` and `follow` say of it, where there is no program:
+    nothing else is played."""
     note = NOT_PLAYED
 
     def __init__(self) -> None:
-        self.unknown = {'follow', 'reach'}
+        self.unknown = {'reach'}
         self.reports: dict[str, tuple[int, str]] = {}
-        self.states: dict[str, str] = {}
-        shown = stored_states()
+        self.said: dict[tuple[str, str], str] = {}  # by a word and the text of an example
+        told = {word: stored_of(word) for word in STORED}
         for path in glob.glob(os.path.join(command.TOP, 'examples', '*', '*.toml')):
             if os.path.exists(path + '.stdout'):
                 status = command.read(path + '.status') if os.path.exists(path + '.status') else '0'
                 text, name = command.read(path), os.path.basename(path)
                 self.reports[text] = int(status), command.read(path + '.stdout')
-                self.states |= {text: shown[name]} if name in shown else {}
+                self.said |= {(word, text): said[name] for word, said in told.items() if name in said}
 
     def answer(self, words: Sequence[str], text: str) -> tuple[int, str]:
-        if words[0] == 'state':  # which is asked of what was played, and of that as it says its chain
-            is_asked = text in self.states and [*words] == ['state', STDIN, matrix.chain_for(text), 'each']
-            return (0, self.states[text]) if is_asked else (command.NOT_BUILT, '')
+        if words[0] in STORED:  # which is asked of what was played, and of that as it says its chain
+            is_asked = [*words] == [words[0], STDIN, matrix.chain_for(text), *STORED[words[0]]]
+            said = self.said.get((words[0], text)) if is_asked else None
+            return (command.NOT_BUILT, '') if said is None else (0, said)
         if [*words] != played_by(text):
             raise command.Refusal(NOT_PLAYED, command.NOT_BUILT)
         return self.play(text)
@@ -142,7 +146,7 @@ class Trial(Stored):
     note = ''
 
     def answer(self, words: Sequence[str], text: str) -> tuple[int, str]:
-        if words[0] == 'state' or [*words] == played_by(text):
+        if words[0] in STORED or [*words] == played_by(text):
             return super().answer(words, text)
         return command.play(command.PROGRAM, text, words[2] if words[0] == 'nested' else None, once=True)
 
@@ -159,9 +163,9 @@ def played_by(text: str) -> list[str]:
     return ['lab', STDIN] if chain is None else ['nested', STDIN, chain]
 
 
-def stored_states() -> dict[str, str]:
-    """What `state FILE CHAIN each` says of each example, by its name."""
-    path = os.path.join(command.TOP, 'tests', 'stored', 'shown.txt')
+def stored_of(word: str) -> dict[str, str]:
+    """What `state FILE CHAIN each` or `follow FILE CHAIN` says of each example, by its name."""
+    path = os.path.join(command.TOP, 'tests', 'stored', f'{word}.txt')
     blocks = re.split(r'^== (\S+)\n', command.read(path), flags=re.M)[1:] if os.path.exists(path) else []
     return dict(zip(blocks[::2], blocks[1::2]))
 

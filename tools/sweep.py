@@ -171,14 +171,6 @@ class Sweep:
         self.head = [results.FIRST_COLUMN, *keys, 'status', *self.columns.names()]
         self.settings = settings
 
-    def note(self):
-        """What is to be said of where packets went, by the first scenario."""
-        try:
-            told = Told(teller_of(self.program), self.made.with_values(next(template.combinations(self.settings))))
-            return told.note if told.status in PLAYED else ''
-        except command.Refusal:  # which its own line says
-            return ''
-
     def about(self):
         """The line above the head."""
         options = self.options
@@ -207,10 +199,7 @@ def main():
     if found and not options.plot:
         raise command.Refusal(f'{options.template}: was written before; --plot X,Y draws it', command.WRONG_WORDS)
     if not options.plot:
-        sweep = Sweep(options)
-        if sweep.note():
-            command.tell(sweep.note())
-        return results.write(sweep, options.out, options.resume)
+        return results.write(Sweep(options), options.out, options.resume)
     made = None if found else Sweep(options)
     head, lines = found or (made.head, made.lines())
     picture = '\n'.join(plot.svg_of(head, list(lines), options.plot, os.path.basename(options.template))) + '\n'

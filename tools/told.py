@@ -1,7 +1,6 @@
 """What the program says of a scenario, asked once a view: its report, what each node keeps, and where each packet went.
 
-Who has a report alone knows neither of the last two; so does who has a program that doesn't answer `state`. Where it doesn't answer
-`follow`, that is made from the report and `state` (following.py), which nothing proves, and `note` says so.
+Who has a report alone knows neither of the last two; so does who has a program that answers neither `state` nor `follow`.
 """
 from __future__ import annotations
 
@@ -15,13 +14,11 @@ import command
 import toml_places
 import topology
 from followed import Followed, followed_of
-from following import following
 from kept import Client, Kept, Peer, Void
 from player import STDIN, Trial
 from report import HANDED_IN, Entry, Record, Report
 from topology import Topology
 
-UNPROVED = 'where packets went is told from the report and `state`, since this program does not answer `follow`: that is unproved'
 PLAYED = (0, 8)  # statuses of a scenario that was played: to its end, or until the wire was full
 
 
@@ -109,9 +106,7 @@ class Told:
     @functools.cached_property
     def followed(self) -> Followed | None:
         found = self.ask('follow', STDIN, self.chain or '-')
-        if found is not None:
-            return followed_of(found[1]) if found[0] in PLAYED else None
-        return following(self.report, self.kept) if self.kept is not None else None
+        return followed_of(found[1]) if found and found[0] in PLAYED else None
 
     def name(self, kept: Kept) -> None:
         """Tells the report what the entries have in them by which a node let go what waited: at a record packets wait for a peer, one more
@@ -136,11 +131,6 @@ class Told:
         """What a packet is that waits since a record."""
         entry = self.report.entry_of(record)
         return self.report.content(entry) if entry else 'echo request' if record.act == 'echo' else 'packet'
-
-    @property
-    def note(self) -> str:
-        """What is to be said of where packets went: nothing where that is proved."""
-        return UNPROVED if self.followed is not None and not self.followed.is_proved else ''
 
     @functools.cached_property
     def handed_in(self) -> list[Record]:

@@ -44,12 +44,6 @@ def load(options: argparse.Namespace) -> Told:
     return told
 
 
-def tell_note(told: Told) -> None:
-    """Says where what is shown of packets isn't proved."""
-    if told.note:
-        command.tell(told.note)
-
-
 def short(event: str) -> str:
     """An event's text without most of its bytes."""
     return ' '.join(word if len(word) <= 40 else word[:HEX_MAX] + '..' for word in event.split(' '))
@@ -182,7 +176,6 @@ def main() -> int:
         told.kept  # by which entries are named that let go what waited
         lines = [line for record in told.report.records if is_root(record) for line in tree_of(told, record)]
     command.show(lines)
-    tell_note(told)
     return 0
 
 

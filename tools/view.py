@@ -82,7 +82,7 @@ class View:
 
     def whole(self):
         return {
-            'status': self.told.status, 'name': self.name, 'chain': self.told.chain, 'totals': self.report.totals, 'note': self.told.note,
+            'status': self.told.status, 'name': self.name, 'chain': self.told.chain, 'totals': self.report.totals,
             'first': self.first, 'opening': self.opening(), 'count': len(self.report.records), 'most': RECORDS_MAX,
             'nodes': [{'name': node, 'kind': kind, 'about': about(node, self.known)} for node, kind in self.known.kinds.items()],
             'records': [self.record(record) for record in self.records], 'lines': self.lines(), 'rules': self.rules(),

@@ -23,7 +23,6 @@ import ends
 import flow
 import follow
 import followed
-import following
 import generated
 import json_lines
 import kept
@@ -121,19 +120,18 @@ def faults_without_reach():
     return found
 
 
-def check_following(program):
-    """The lines of `follow`, made from a report and `state`, are those of the program, of each example and of generated scenarios; and what
-    the program says of each node is read whole."""
+def check_said(program):
+    """What the program says of each packet and of each node is read whole, of each example and of generated scenarios."""
     teller, found = told.Program(program), []
     texts = {name: command.read(path_of(name)) for name in names()}
     texts |= {f'generated {seed}': generated.scenario(seed, GENERATED) for seed in SEEDS}
     for name, text in texts.items():
         one = told.Told(teller, text)
-        if one.kept is None or one.followed is None or not one.followed.is_proved:
-            skip('where packets went, made and as the program says it', 'it does not answer `follow` and `state`')
+        if one.kept is None or one.followed is None:
+            skip('where packets went, and what nodes keep', 'the program does not answer `follow` and `state`')
             break
-        made = following.following(one.report, one.kept).lines()
-        found += [f'{name}: {pair}' for pair in [pair for pair in zip(made, one.followed.lines()) if pair[0] != pair[1]][:1] or ['lengths']] if made != one.followed.lines() else []
+        if one.followed.lines() != one.ask('follow', STDIN, one.chain or '-')[1].splitlines():
+            found.append(f'{name}: the lines of follow are not made again')
         if [f'{"-" if line.record < 0 else line.record} {line.moment} {line.node} {kept.text_of(line.what)}' for line in one.kept.lines] != stated(one):
             found.append(f'{name}: the lines of state are not made again')
     return found

@@ -127,12 +127,15 @@ def faults_of_patches(playing):
 
 
 def check_stored(program):
-    """What is stored of `state` for each example is what the program says."""
-    stored, told_of = player.stored_states(), dict(of_tests('shown').blocks(program))
-    if None in told_of.values():
-        skip('what is stored of `state`', 'this program does not answer it')
-        return []
-    return [f'tests/stored/shown.txt: {name} is not what the program says' for name in sorted({*stored, *told_of}) if stored.get(name) != told_of.get(name)]
+    """What is stored of `state` and of `follow` for each example is what the program says."""
+    found = []
+    for word in player.STORED:
+        stored, told_of = player.stored_of(word), dict(of_tests('shown').blocks(word, program))
+        if None in told_of.values():
+            skip(f'what is stored of `{word}`', 'this program does not answer it')
+        else:
+            found += [f'tests/stored/{word}.txt: {name} is not what the program says' for name in sorted({*stored, *told_of}) if stored.get(name) != told_of.get(name)]
+    return found
 
 
 def check_matrices(program):

@@ -6,7 +6,7 @@ import causes
 import ends
 from kept import Lets
 from shared import ONE_CLIENT, WAITED, WAITED_FOLLOW, WAITED_STATE, client, nat, scenario
-from told import UNPROVED, Told, alone
+from told import Told, alone
 
 TWO = scenario(nat('n1', 1), client('a', 'n1'), nat('n2', 2), client('b', 'n2')).replace(
     'events = ["advance 0", "settle"]', 'events = ["host a b 00", "next", "next", "next", "next", "next", "fault 0", "host b a 00", "host b 2001:db8::1 00", "host b a 00"]')
@@ -33,11 +33,10 @@ class Asked(unittest.TestCase):
         for _ in range(2):
             self.assertEqual([str(ends.end_of(one, record)) for record in one.handed_in][0], 'arrived at b, rule3')
         self.assertEqual(sorted(one.teller.asked), ['follow', 'lab', 'state'])
-        self.assertEqual(one.note, '')
 
-    def test_without_follow_it_is_made_and_said_to_be_unproved(self):
+    def test_without_follow_nothing_is_said_of_packets(self):
         one = told(state=WAITED_STATE)
-        self.assertEqual((one.followed.lines(), one.note), (WAITED_FOLLOW.splitlines(), UNPROVED))
+        self.assertIsNone(one.followed)
         self.assertEqual(one.teller.unknown, {'follow'})
 
     def test_without_either_the_lines_of_the_report_are_said(self):

@@ -1,12 +1,9 @@
-"""Where packets went: the lines of `follow` read, what they tell, and the same made from a report and `state`."""
+"""Where packets went: the lines of `follow` read, and what they tell."""
 import unittest
 
 from command import Refusal
 from followed import ARRIVES, End, Load, Packet, followed_of
-from following import following
-from kept import Kept
-from report import Report
-from shared import WAITED, WAITED_FOLLOW, WAITED_STATE
+from shared import WAITED_FOLLOW
 
 ECHOED = '''\
 55 12000 a held_test 2 held
@@ -41,17 +38,6 @@ class Lines(unittest.TestCase):
         for text in ('', 'packet 0 0 a arrived 5\n', '0 0 a queued 0 sleeps\n' + ECHOED, ECHOED + ECHOED, ECHOED.replace('packet 2', 'packet x')):
             with self.subTest(text=text[:30]), self.assertRaises(Refusal):
                 followed_of(text)
-
-
-class Made(unittest.TestCase):
-    def test_of_a_report_and_of_what_is_kept(self):
-        made = following(Report(WAITED), Kept(WAITED_STATE))
-        self.assertEqual(made.lines(), WAITED_FOLLOW.splitlines())
-        self.assertFalse(made.is_proved)
-
-    def test_where_the_wire_is_full_there_are_no_ends(self):
-        full = WAITED.rpartition('total')[0] + 'wire full\n'
-        self.assertEqual(following(Report(full), Kept(WAITED_STATE)).lines(), [*WAITED_FOLLOW.splitlines()[:6], 'wire full'])
 
 
 if __name__ == '__main__':

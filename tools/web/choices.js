@@ -199,12 +199,11 @@ function showFound(found) {
   }
 }
 
-// What is to be said of who played, and of where packets went.
+// What is to be said of who played.
 function tellNote() {
   if (data.isForeign) return;
-  const said = [data.note, state.view && state.view.note].filter(Boolean);
-  get('note').textContent = said.join('; ');
-  get('note').hidden = !said.length;
+  get('note').textContent = data.note || '';
+  get('note').hidden = !data.note;
 }
 
 function offerFiles() {
