@@ -7,7 +7,7 @@ braces, and isn't counted. Crates that are above it yet have the most that they 
 import re
 
 PARAMETERS_MAX = 14
-NOT_YET = {'load_keeper': 27, 'state_writer': 16, 'worked_facts': 15}
+NOT_YET = {'load_ends': 20, 'load_keeper': 27, 'state_writer': 16, 'worked_facts': 15}
 SECTION = re.compile(r'^( *)module _ ')
 LEMMA = re.compile(r'^( *)(?:pub )?([^\s:{}()]+) : (.*)$')
 GROUP = re.compile(r'^[({]\s*[^\s:(){}]+(\s+[^\s:(){}]+)*\s*:\s')
