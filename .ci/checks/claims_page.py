@@ -4,6 +4,7 @@ import glob
 import os
 import re
 
+import regions
 from sentences import Sentences, name_of
 
 PAGE, HEAD = 'docs/CLAIMS.md', 'docs/parts/claims.md'
@@ -80,7 +81,7 @@ def made(top, files, public):
         if sentences or beside:
             entries = ''.join(entry(each, edits[number], crate) for number, each in enumerate(sentences))
             page.append(f'## `{crate}`\n\n{told.title(crate)}\n\n{entries}' + ''.join(f'\n{linked(each)}\n' for each in beside))
-    return '\n'.join(part.rstrip('\n') + '\n' for part in page), faults
+    return regions.with_contents('\n'.join(part.rstrip('\n') + '\n' for part in page)), faults
 
 
 def linked(text):

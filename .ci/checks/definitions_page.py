@@ -1,15 +1,16 @@
 """docs/DEFINITIONS.md, made from the comments above the definitions of specs/.
 
 A comment is the block of `--` lines directly above a definition. A line that begins with `*WORD*` says which word the definition
-gives its meaning; lines from `Premise: ` on tell, field by field, what a theorem on histories wants.
+gives its meaning; lines from `Premise: ` on tell, field by field, what a theorem on histories needs.
 """
 import re
 
+import regions
 from definitions import head_of
 from sentences import comment_above
 
 PAGE, HEAD = 'docs/DEFINITIONS.md', 'docs/parts/definitions.md'
-PREMISES = 'What theorems on histories want'
+PREMISES = 'What theorems on histories need'
 WORD = re.compile(r'\*([^*]+)\*(?:, ([^:]+))?:')
 PREMISE = 'Premise: '
 SEE = re.compile(r'See `(\w+)`\.$')
@@ -74,9 +75,9 @@ def made(top, statements, mark):
     with open(f'{top}/{HEAD}', encoding='utf-8') as file:
         page = file.read().replace('\n', f'\n\n{mark}\n', 1)
     table = ''.join(f'| {word} | {of} | `{name}`, [`{crate}`](#{crate}) |\n' for word, of, name, crate in sorted(words, key=lambda row: row[0].lower()))
-    return (f'{page.rstrip()}\n\n## Words\n\n| word | of what | definition |\n|---|---|---|\n{table}\n## {PREMISES}\n\n'
-            f'Each premise with all that it wants, field by field. [SURE.md](SURE.md) has the theorems, and examples without one premise each.\n\n'
-            f'{items(premises)}\n' + '\n'.join(by_crate)), faults
+    return regions.with_contents(f'{page.rstrip()}\n\n## Words\n\n| word | of what | definition |\n|---|---|---|\n{table}\n## {PREMISES}\n\n'
+                                 f'Each premise with all that it needs, field by field. [SURE.md](SURE.md) has the theorems, and examples without one premise each.\n\n'
+                                 f'{items(premises)}\n' + '\n'.join(by_crate)), faults
 
 
 def items(premises):

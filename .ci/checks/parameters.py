@@ -2,12 +2,11 @@
 
 A section `module _ (..) where` hides its parameters from the line of the lemma, and gives each of them to whoever calls it. Past
 PARAMETERS_MAX a record stands for those that go together, with `open` in the section. What a later parameter tells stands in
-braces, and isn't counted. Crates that are above it yet have the most that they had: a change lowers it, and none raises it.
+braces, and isn't counted.
 """
 import re
 
 PARAMETERS_MAX = 14
-NOT_YET = {'load_ends': 20, 'load_keeper': 27, 'state_writer': 16, 'worked_facts': 15}
 SECTION = re.compile(r'^( *)module _ ')
 LEMMA = re.compile(r'^( *)(?:pub )?([^\s:{}()]+) : (.*)$')
 GROUP = re.compile(r'^[({]\s*[^\s:(){}]+(\s+[^\s:(){}]+)*\s*:\s')
@@ -93,9 +92,7 @@ def is_more(line, indent):
 def faults(paths, read):
     """Each lemma that has too many."""
     for path in paths:
-        crate = re.fullmatch(r'crates/(\w+)/proofs/(?:[a-z_]+/)?[A-Z]\w*\.antt', path)
-        if crate:
-            most = NOT_YET.get(crate[1], PARAMETERS_MAX)
+        if re.fullmatch(r'crates/\w+/proofs/(?:[a-z_]+/)?[A-Z]\w*\.antt', path):
             for name, count in lemmas(read(path)):
-                if count > most:
-                    yield f'{path}: `{name}` has {count} parameters with those of its sections, and {most} are the most'
+                if count > PARAMETERS_MAX:
+                    yield f'{path}: `{name}` has {count} parameters with those of its sections, and {PARAMETERS_MAX} are the most'

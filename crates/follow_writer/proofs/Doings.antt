@@ -1,5 +1,5 @@
 -- What a record is: no node did anything, or one did.
-use Rattle.follow_writer.proofs.Words.{Bool, ClientNode, Ep, Fate, Full, Input, Kind, Lab, List, Node, None, Option, Quiet, Some, ap, changes_client, changes_peer, client, copied, dst_of, entry_of, false, faulted, forgot, given, gives_up, handed, input_of, is_new_address, is_of_peer, items_of, missing, nat, native, no_ep, node_at, none_left, option_and_then, passed, put, quiet, reached, refl, relay, releases_all, restarted, server, settled, shut, source_delivered, source_of, source_of_item, stays, strayed, sym, ticked, true, uncopied, wire, ℕ, ◌||◌, ◌∙◌, ◌∷◌, ◌≡◌}
+use Rattle.follow_writer.proofs.Words.{Bool, ClientNode, Ep, Fate, Full, Input, Kind, Lab, List, Node, None, Option, Quiet, Some, ap, begins_anew, changes_client, changes_peer, client, copied, dst_of, entry_of, false, faulted, forgot, given, gives_up, handed, input_of, is_of_peer, items_of, missing, nat, native, no_ep, node_at, none_left, option_and_then, passed, put, quiet, reached, refl, relay, releases_all, restarted, server, settled, shut, source_delivered, source_of, source_of_item, stays, strayed, sym, ticked, true, uncopied, wire, ℕ, ◌||◌, ◌∙◌, ◌∷◌, ◌≡◌}
 use Rattle.teredo_node.specs.declared.fate.Fate.TheVariants as fate
 use Rattle.legal.specs.Kinds as kinds
 use Rattle.follow_writer.proofs.LatestOne.{source_of_input}
@@ -19,7 +19,7 @@ pub record SaysNothing (f : Fate) : Type 0 where
   pub of_client : changes_peer f ≡ false
   pub of_relay : changes_client f ≡ false
   pub releases : (releases_all f || gives_up f) ≡ false
-  pub stays_there : (c : ClientNode) → is_new_address (Some (client c)) f ≡ false
+  pub stays_there : (c : ClientNode) → begins_anew (Some (client c)) f ≡ false
 
 pub idle_says : (f : Fate) → is_idle f ≡ true → SaysNothing f
 idle_says fate.NatClosed is = record { of_client = refl; of_relay = refl; releases = refl; stays_there = λ c. refl }
@@ -38,7 +38,7 @@ idle_of_nobody (Some (native x)) f is = is.releases
 idle_of_nobody (Some (client x)) f is = ap (λ (b : Bool). b || (releases_all f || gives_up f)) is.of_client ∙ is.releases
 idle_of_nobody (Some (relay x)) f is = ap (λ (b : Bool). b || (releases_all f || gives_up f)) is.of_relay ∙ is.releases
 
-pub idle_same_address : (a : Option Node) (f : Fate) → SaysNothing f → is_new_address a f ≡ false
+pub idle_same_address : (a : Option Node) (f : Fate) → SaysNothing f → begins_anew a f ≡ false
 idle_same_address None f is = refl
 idle_same_address (Some (server x)) f is = refl
 idle_same_address (Some (nat x)) f is = refl

@@ -1,31 +1,5 @@
 -- Lines on sayings that are written one after the other.
-use Rattle.follow_writer.proofs.Words.{BeginsLines-more, BeginsLines-then, Err, List, Ok, Result, Rose, SinkState, WritesLines-then, Writing, [], ap, arith, drop, get_or, length, map, refl, subst, sym, take, take_rest, ℕ, ◌++◌, ◌-◌, ◌<◌, ◌∙◌, ◌∷◌, ◌≡◌, ◌≤◌}
-
-module _ {E : Type 0} (a b c : SinkState) (xs ys : List (List ℕ)) where
-  -- other lines behind those that were written
-  both : (r : Result (Unit {0}) E) → Writing {E = E} a b xs (Ok tt) → Writing {E = E} b c ys r → Writing {E = E} a c (xs ++ ys) r
-  both (Ok _) p q = record {
-    ok = WritesLines-then a b c xs ys p.ok q.ok;
-    err = tt;
-    cause = record { later = omega (arith, p.cause.later, q.cause.later); failed = tt; kept = q.cause.kept ∙ p.cause.kept };
-  }
-  both (Err e) p q = record {
-    ok = tt;
-    err = BeginsLines-then a b c xs ys p.ok q.err;
-    cause = record {
-      later = omega (arith, p.cause.later, q.cause.later);
-      failed = subst (λ (n : ℕ). Rose n c.faults) p.cause.kept q.cause.failed;
-      kept = tt;
-    };
-  }
-
--- the sink failed before the other lines
-broken_off : {E : Type 0} (a b : SinkState) (xs ys : List (List ℕ)) (e f : E) → Writing {E = E} a b xs (Err e) → Writing {E = E} a b (xs ++ ys) (Err f)
-broken_off a b xs ys e f w = record {
-  ok = tt;
-  err = BeginsLines-more a b xs ys w.err;
-  cause = record { later = w.cause.later; failed = w.cause.failed; kept = tt };
-}
+use Rattle.follow_writer.proofs.Words.{Err, List, Ok, Result, SinkState, Writing, [], ap, arith, both_written, drop, ended_early, get_or, length, map, refl, subst, sym, take, take_rest, ℕ, ◌-◌, ◌<◌, ◌∷◌, ◌≡◌, ◌≤◌}
 
 -- a slice without a first saying has none
 pub no_sayings : {S : Type 0} (ss : List S) → length ss < 1 → ss ≡ []
@@ -42,9 +16,9 @@ module _ {S N E : Type 0} (line : N → List ℕ) (by : S → N) (ss : List S) (
   pub sayings_written : (a b c : SinkState) (r : Result (Unit {0}) E) → Writing {E = E} a b (line (by (get_or ss 0 x)) ∷ []) (Ok tt)
       → Writing {E = E} b c (map line (map by (take (length ss - 1) (drop 1 ss)))) r → Writing {E = E} a c (map line (map by ss)) r
   sayings_written a b c r first others = subst (λ (all : List S). Writing {E = E} a c (map line (map by all)) r) (sym (first_saying ss x some))
-      (both a b c (line (by (get_or ss 0 x)) ∷ []) (map line (map by (take (length ss - 1) (drop 1 ss)))) r first others)
+      (both_written a b c (line (by (get_or ss 0 x)) ∷ []) (map line (map by (take (length ss - 1) (drop 1 ss)))) r first others)
 
   -- the sink failed at the first
   pub sayings_unwritten : (a b : SinkState) (e f : E) → Writing {E = E} a b (line (by (get_or ss 0 x)) ∷ []) (Err e) → Writing {E = E} a b (map line (map by ss)) (Err f)
   sayings_unwritten a b e f first = subst (λ (all : List S). Writing {E = E} a b (map line (map by all)) (Err f)) (sym (first_saying ss x some))
-      (broken_off a b (line (by (get_or ss 0 x)) ∷ []) (map line (map by (take (length ss - 1) (drop 1 ss)))) e f first)
+      (ended_early a b (line (by (get_or ss 0 x)) ∷ []) (map line (map by (take (length ss - 1) (drop 1 ss)))) e f first)

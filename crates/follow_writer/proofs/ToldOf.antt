@@ -1,5 +1,5 @@
 -- What is told of the record that follows: it is that of its node's entry.
-use Rattle.follow_writer.proofs.Words.{Bool, Entry, Ep, Fate, Follows, Full, Grown, Input, Ip6, IsEntryOf, IsOnLatest, IsOnLatestIf, IsPeerOf, IsToldOf, KeepsItsPacket, Lab, List, Node, Option, Some, ap, changes_client, changes_peer, client, client_knows, concerns_peer, effect_at, entry_of, false, is_new_address, is_of_peer, is_some, journal, latest_at, latest_is_concerned, latest_of, mention, mentions, nat, native, node_if, peer_concerned, record_of, refl, relay, relay_knows, relay_mention, relay_mentions, server, source_delivered, source_of, subst, sym, true, wire, ℕ, ◌∙◌, ◌∷◌, ◌≡◌}
+use Rattle.follow_writer.proofs.Words.{Bool, Entry, Ep, Fate, Follows, Full, Grown, Input, Ip6, IsEntryOf, IsOnLatest, IsOnLatestIf, IsPeerOf, IsToldOf, KeepsItsPacket, Lab, List, Node, Option, Some, ap, begins_anew, changes_client, changes_peer, client, client_knows, concerns_peer, effect_at, entry_of, false, is_of_peer, is_some, journal, latest_at, latest_is_concerned, latest_peer_of, mention, mentions, nat, native, node_if, peer_concerned, record_of, refl, relay, relay_knows, relay_mention, relay_mentions, server, source_delivered, source_of, subst, sym, true, wire, ℕ, ◌∙◌, ◌∷◌, ◌≡◌}
 use Rattle.legal.proofs.LawProofs as laws
 use Rattle.follow_writer.proofs.ClientFates as client_fates
 use Rattle.follow_writer.proofs.RelayFates as relay_fates
@@ -14,8 +14,8 @@ module _ (lab : Lab) (H : List Full) (r : Full) where
     abbrev peer_then : Option Ip6
     peer_then = latest_at lab.topology (r ∷ H) r.node
 
-    its : (a : Node) → IsDone lab H r n a m dst input → peer_then ≡ latest_of (journal n (r ∷ H)) (Some a)
-    its a done = ap (latest_at lab.topology (r ∷ H)) done.node ∙ ap (latest_of (journal n (r ∷ H))) done.there
+    its : (a : Node) → IsDone lab H r n a m dst input → peer_then ≡ latest_peer_of (journal n (r ∷ H)) (Some a)
+    its a done = ap (latest_at lab.topology (r ∷ H)) done.node ∙ ap (latest_peer_of (journal n (r ∷ H))) done.there
 
     peer_is : (a : Node) → IsDone lab H r n a m dst input → is_of_peer (Some a) r.fate ≡ true → (entry_of lab H m n dst input a).peer ≡ peer_then
     peer_is (server x) done of = server_peer lab H m n dst x input ∙ sym (its (server x) done)
@@ -68,7 +68,7 @@ module _ (lab : Lab) (H : List Full) (r : Full) where
       let its_own : is_of_peer (Some a) r.fate ≡ true = subst (λ (b : Option Node). is_of_peer b r.fate ≡ true) there of in
       subst (λ (o : Option Entry). IsPeerOf peer_of from_of o) (sym done.entry) (peer_is follows n m dst input a done its_own, ap source_of is.input_is ∙ done.source)
 
-  same_address : What lab H r → is_some r.entry ≡ false → is_new_address node_of r.fate ≡ false
+  same_address : What lab H r → is_some r.entry ≡ false → begins_anew node_of r.fate ≡ false
   same_address (nobody none idle) missing_so = idle_same_address node_of r.fate (idle_says r.fate idle)
   same_address (somebody n a m dst input done) missing_so = let e : true ≡ false = sym (ap is_some done.entry) ∙ missing_so in absurd (cc e)
 

@@ -10,9 +10,8 @@ pub use Rattle.bubble.specs.PacketsIn.{destination_in, source_in}
 unfoldable pub use Rattle.bubble.specs.PacketsIn.{packet_given, packet_in}
 pub use Rattle.bubble.specs.Payloads.{Value}
 pub use Rattle.bubble.specs.Reads.{is_payload, value_in}
-pub use Rattle.td_outside.specs.Causes.{Rose}
 pub use Rattle.td_outside.specs.Sink.{SinkState}
-pub use Rattle.sink_lines.proofs.Written.{BeginsLines-more, BeginsLines-then, WritesLines-then, Writing-line, not_wrote, nothing_wrote, wrote}
+pub use Rattle.sink_lines.proofs.Written.{Writing-line, both_written, ended_early, not_wrote, nothing_wrote, wrote}
 pub use Rattle.sink_lines.specs.LineLaws.{WritesNothing-refl}
 pub use Rattle.sink_lines.specs.Lines.{Writing}
 pub use Rattle.teredo_node.proofs.FirstLines.{first_of_each}
@@ -82,7 +81,7 @@ pub use Rattle.loads.specs.Loads.{loads, releases_all}
 pub use Rattle.loads.specs.Sayings.{gives_up, sayings_of}
 pub use Rattle.loads.specs.declared.saying.Saying.{Saying}
 pub use Rattle.load_keeper.specs.Effects.{client_effect, relay_effect}
-pub use Rattle.load_keeper.specs.Hearing.{effect_at, is_new_address}
+pub use Rattle.load_keeper.specs.Hearing.{begins_anew, effect_at}
 pub use Rattle.load_keeper.specs.Keeper.{IsEntryOf, IsPeerOf, IsToldOf, KeepsItsPacket, StandsForLoads, is_of_peer, node_if}
 pub use Rattle.load_keeper.specs.declared.effect.Effect.{Effect}
 pub use Rattle.load_keeper.specs.declared.effect.Effect.TheVariants.{GivesUp, Hears, Holds, Nothing, Queues, Tests, Touches}
@@ -91,5 +90,5 @@ pub use Rattle.load_ends.specs.Table.{TellsEnds}
 pub use Rattle.load_ends.specs.declared.ends_table.EndsTable.{EndsTable}
 pub use Rattle.follow_writer.specs.FollowAccount.{record_follows}
 pub use Rattle.follow_writer.specs.Keeps.{FollowsPackets}
-pub use Rattle.follow_writer.specs.Told.{latest_at, latest_of, source_delivered, source_of_item}
+pub use Rattle.follow_writer.specs.Told.{latest_at, latest_peer_of, source_delivered, source_of_item}
 pub use Rattle.follow_writer.specs.declared.follow_writer.FollowWriter.{FollowWriter}

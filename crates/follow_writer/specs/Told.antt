@@ -16,15 +16,15 @@ use Rattle.history.specs.Full.{Item, udp, six, Full}
 use Rattle.legal.specs.Past.{journal}
 
 -- the latest peer of a node, by its journal; other nodes have no peers
-abbrev pub latest_of : Journal → Option Node → Option Ip6
-latest_of j (Some (client c)) = latest_peer (mentions j.entries)
-latest_of j (Some (relay q)) = latest_peer (relay_mentions j.entries)
-latest_of j _ = None
+abbrev pub latest_peer_of : Journal → Option Node → Option Ip6
+latest_peer_of j (Some (client c)) = latest_peer (mentions j.entries)
+latest_peer_of j (Some (relay q)) = latest_peer (relay_mentions j.entries)
+latest_peer_of j _ = None
 
 -- the latest peer of the node of a number after a history, if there is one
 abbrev pub latest_at : TopologyState → List Full → Option ℕ → Option Ip6
 latest_at t H None = None
-latest_at t H (Some n) = latest_of (journal n H) (node_at t n)
+latest_at t H (Some n) = latest_peer_of (journal n H) (node_at t n)
 
 -- where an entry of the wire came from; an IPv6 packet came from no endpoint
 abbrev pub source_of_item : Item → Option Ep

@@ -5,7 +5,7 @@ ghost use Rattle.legal.specs.Lab.{Draws};
 ghost use Rattle.legal.specs.Past.{journal};
 ghost use Rattle.topology.specs.Topology.{node_at};
 ghost use Rattle.world.specs.World.{StandsFor};
-ghost use Rattle.follow_writer.specs.Told.{latest_of, latest_at, source_delivered};
+ghost use Rattle.follow_writer.specs.Told.{latest_peer_of, latest_at, source_delivered};
 
 use history::{Act, Record};
 use lab_nodes::PlayedNode;
@@ -14,7 +14,7 @@ use world::{WireEntry, World};
 
 /// The latest peer of the node of a number, if it is a client or a relay and has one.
 fn latest_of(world: &World, number: u16) -> Option<Ip6>
-    ensures { (d : Draws) (H : List Full) → StandsFor d world.now H → result ≡ latest_of (journal number H) (node_at world.now.topology number) }
+    ensures { (d : Draws) (H : List Full) → StandsFor d world.now H → result ≡ latest_peer_of (journal number H) (node_at world.now.topology number) }
 {
     let Some(node) = world.node(number) else {
         return None;

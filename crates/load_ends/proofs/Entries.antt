@@ -1,5 +1,5 @@
 -- The rows as the entries of the wire are gone through, from the last one to the first.
-use Rattle.load_ends.proofs.Words.{Bool, Draws, Full, List, Load, None, NumberedPacket, NumberedSaying, Option, Packet, PacketRow, ReplyTo, Some, StandsFor, TopologyState, WorldState, [], all_sayings, ap, arith, drop, drop_all, drop_more, false, handed_in, if◌then◌else◌, is_load, length, load_at, loads, map, no_entries, not, open_entry, packet_number, part_of, part_with_entry, refl, row_told, rows_by_entry, rows_from, same_load, sym, true, was_delivered, wire_counted, with_part, ℕ, ◌&&◌, ◌+◌, ◌<◌, ◌∙◌, ◌∷◌, ◌≡◌, ◌≢◌, ◌≤◌}
+use Rattle.load_ends.proofs.Words.{Bool, Draws, Full, List, Load, None, NumberedPacket, NumberedSaying, Option, Packet, PacketRow, ReplyTo, Some, StandsFor, TopologyState, WorldState, [], all_sayings, ap, arith, drop, drop_all, drop_more, false, handed_in, if◌then◌else◌, is_load, kept_in_row, length, load_at, loads, map, no_entries, not, open_entry, packet_number, part_with_entry, refl, row_told, rows_by_entry, rows_from, same_load, sym, true, was_delivered, wire_counted, with_part, ℕ, ◌&&◌, ◌+◌, ◌<◌, ◌∙◌, ◌∷◌, ◌≡◌, ◌≢◌, ◌≤◌}
 use Rattle.load_ends.proofs.Rows.{numbered, one_changed, same_number, other_number}
 
 alike : (f g : NumberedPacket → PacketRow) → ((p : NumberedPacket) → f p ≡ g p) → (ps : List NumberedPacket) → map f ps ≡ map g ps
@@ -38,7 +38,7 @@ module _ (H : List Full) (i : ℕ) (rest : List (Option Load)) (ts : List Number
   it_stands k l is open_still = passes (Some k) l true (rw (is, open_still) refl)
 
   row_here : (k : Load) → was_delivered i H ≡ false → (p : NumberedPacket) → p.number ≡ packet_number k
-      → with_part k (part_with_entry i (part_of k (row_told ts without p))) (row_told ts without p) ≡ row_told ts (with_it (Some k)) p
+      → with_part k (part_with_entry i (kept_in_row k (row_told ts without p))) (row_told ts without p) ≡ row_told ts (with_it (Some k)) p
   row_here (Packet n) still p e = rw (it_stands (Packet n) (Packet p.number) (same_number p.number n e) still, other_passes (Packet n) (ReplyTo p.number) refl) refl
   row_here (ReplyTo n) still p e = rw (it_stands (ReplyTo n) (ReplyTo p.number) (same_number p.number n e) still, other_passes (ReplyTo n) (Packet p.number) refl) refl
 
@@ -57,7 +57,7 @@ module _ (t : TopologyState) (H : List Full) (i : ℕ) where
   by_load : (y : Option Load) (d : Bool) → was_delivered i H ≡ d → rows_by_entry i y d (rows_from t H (i + 1)) ≡ map (row_told ts (with_it H i rest ts y)) (handed_in H)
   by_load y true was = alike _ _ (λ p. sym (rw (delivered_passes H i rest ts y was (Packet p.number), delivered_passes H i rest ts y was (ReplyTo p.number)) refl)) (handed_in H)
   by_load None false was = refl
-  by_load (Some k) false was = one_changed (row_told ts (without H i rest ts)) (row_told ts (with_it H i rest ts (Some k))) (λ (row : PacketRow). with_part k (part_with_entry i (part_of k row)) row)
+  by_load (Some k) false was = one_changed (row_told ts (without H i rest ts)) (row_told ts (with_it H i rest ts (Some k))) (λ (row : PacketRow). with_part k (part_with_entry i (kept_in_row k row)) row)
       0 (packet_number k) (packet_number k) (omega arith) (handed_in H) (numbered H) (row_here H i rest ts k was) (row_elsewhere H i rest ts k)
 
   pub one_known : (x : Option Load) (b : Bool) → i < length (loads t H).wire → x ≡ load_at (loads t H).wire i → b ≡ was_delivered i H → rows_by_entry i x b (rows_from t H (i + 1)) ≡ rows_from t H i

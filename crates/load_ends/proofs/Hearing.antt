@@ -23,10 +23,10 @@ handed_row t H r false = append-nil _ ∙ sym (ap (map (row_told (all_sayings t 
 handed_row t H r true = sym (map-append (row_told (all_sayings t H) no_entries) (handed_in H) _
     ∙ rw (unsaid_yet t H (Packet (length (handed_in H))) refl, unsaid_yet t H (ReplyTo (length (handed_in H))) refl) refl)
 
-pub hears : (t : TopologyState) (old new : EndsTable) (between : List PacketRow) (H : List Full) (r : Full) (i : ℕ) (a : Record) (said : List Saying)
+pub hears : {between : List PacketRow} (t : TopologyState) (old new : EndsTable) (H : List Full) (r : Full) (i : ℕ) (a : Record) (said : List Saying)
     → between ≡ old.rows.items ++ rows_handed_in (is_handing_in a.act) i a.node → new.rows.items ≡ fold (rows_after_saying i) between said
     → TellsEnds t old H → record_of r ≡ a → i ≡ length H → said ≡ sayings_of t H (loads t H) r → TellsEnds t new (r ∷ H)
-hears t old new between H r i a said pushed noted tells is at says = record { rows = noted ∙ whole } where
+hears {between} t old new H r i a said pushed noted tells is at says = record { rows = noted ∙ whole } where
   rows : between ≡ map (row_told (all_sayings t H) no_entries) (handed_in (r ∷ H))
   rows = pushed ∙ subst (λ (x : Record). old.rows.items ++ rows_handed_in (is_handing_in x.act) i x.node ≡ map (row_told (all_sayings t H) no_entries) (handed_in (r ∷ H))) is
       (rw (tells.rows, at) (handed_row t H r (is_handing_in r.act)))

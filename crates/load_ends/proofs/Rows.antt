@@ -1,5 +1,5 @@
 -- The rows of all packets, of which one changes.
-use Rattle.load_ends.proofs.Words.{Bool, Full, List, Load, None, NumberedPacket, NumberedSaying, Option, Packet, PacketRow, ReplyTo, Saying, Some, TopologyState, [], ap, append-nil, arith, changed_at, false, filter, filter-append, first_number, handed_in, handed_in_by, if◌then◌else◌, is_arrival, is_arrival_of, is_handing_in, is_said_of, last_number_of, length, length-append, loads, map, nat_tests, no_entries, option_or, packet_number, part_after_saying, part_of, part_told, refl, reverse-append, row_told, rows_after_saying, same_load, saying_by, subst, suc, sym, true, with_part, zero, ℕ, ◌++◌, ◌+◌, ◌<◌, ◌==◌, ◌∙◌, ◌∷◌, ◌≡◌, ◌≢◌}
+use Rattle.load_ends.proofs.Words.{Bool, Full, List, Load, None, NumberedPacket, NumberedSaying, Option, Packet, PacketRow, ReplyTo, Saying, Some, TopologyState, [], ap, append-nil, arith, false, filter, filter-append, first_number, handed_in, handed_in_by, if◌then◌else◌, is_arrival, is_arrival_of, is_handing_in, is_said_of, kept_in_row, last_number_of, length, length-append, loads, map, nat_tests, no_entries, option_or, packet_number, part_after_saying, part_told, refl, reverse-append, row_told, rows_after_saying, rows_changed_at, same_load, saying_by, subst, suc, sym, true, with_part, zero, ℕ, ◌++◌, ◌+◌, ◌<◌, ◌==◌, ◌∙◌, ◌∷◌, ◌≡◌, ◌≢◌}
 
 -- NUMBERS
 
@@ -38,7 +38,7 @@ module _ (f g : NumberedPacket → PacketRow) where
       let at = w.0 in rw (alike p (λ e. omega (arith, e, at, lt)), same_behind m (suc n) (omega (arith, lt)) ps w.1 alike) refl
 
   pub one_changed : (change : PacketRow → PacketRow) (n k m : ℕ) → m ≡ n + k → (ps : List NumberedPacket) → NumberedFrom n ps
-      → ((p : NumberedPacket) → p.number ≡ m → change (f p) ≡ g p) → ((p : NumberedPacket) → p.number ≢ m → f p ≡ g p) → changed_at change k (map f ps) ≡ map g ps
+      → ((p : NumberedPacket) → p.number ≡ m → change (f p) ≡ g p) → ((p : NumberedPacket) → p.number ≢ m → f p ≡ g p) → rows_changed_at change k (map f ps) ≡ map g ps
   one_changed change n k m at [] w here alike = refl
   one_changed change n zero m at (p ∷ ps) w here alike =
       let first = w.0 in rw (here p (omega (arith, first, at)), same_behind m (suc n) (omega (arith, at)) ps w.1 alike) refl
@@ -86,7 +86,7 @@ module _ (ts : List NumberedSaying) (i : ℕ) (r : Full) where
   row_after s p = row_told (ts ++ saying_by i r s ∷ []) no_entries p
 
   row_here : (s : Saying) (l : Load) → s.load ≡ l → (p : NumberedPacket) → p.number ≡ packet_number l
-      → with_part l (part_after_saying i (is_arrival s.way) (part_of l (row_told ts no_entries p))) (row_told ts no_entries p) ≡ row_after s p
+      → with_part l (part_after_saying i (is_arrival s.way) (kept_in_row l (row_told ts no_entries p))) (row_told ts no_entries p) ≡ row_after s p
   row_here s (Packet k) is p e = rw (part_said ts (saying_by i r s) None (Packet p.number) true (rw is (same_number p.number k e)), part_said ts (saying_by i r s) None (ReplyTo p.number) false (rw is refl)) refl
   row_here s (ReplyTo k) is p e = rw (part_said ts (saying_by i r s) None (ReplyTo p.number) true (rw is (same_number p.number k e)), part_said ts (saying_by i r s) None (Packet p.number) false (rw is refl)) refl
 
@@ -95,5 +95,5 @@ module _ (ts : List NumberedSaying) (i : ℕ) (r : Full) where
   row_elsewhere s (ReplyTo k) is p e = rw (part_said ts (saying_by i r s) None (ReplyTo p.number) false (rw is (other_number p.number k e)), part_said ts (saying_by i r s) None (Packet p.number) false (rw is refl)) refl
 
   pub rows_said : (s : Saying) (ps : List NumberedPacket) → NumberedFrom 0 ps → rows_after_saying i (map (row_told ts no_entries) ps) s ≡ map (row_after s) ps
-  rows_said s ps w = one_changed (row_told ts no_entries) (row_after s) (λ (row : PacketRow). with_part s.load (part_after_saying i (is_arrival s.way) (part_of s.load row)) row)
+  rows_said s ps w = one_changed (row_told ts no_entries) (row_after s) (λ (row : PacketRow). with_part s.load (part_after_saying i (is_arrival s.way) (kept_in_row s.load row)) row)
       0 (packet_number s.load) (packet_number s.load) (omega arith) ps w (row_here s s.load refl) (row_elsewhere s s.load refl)

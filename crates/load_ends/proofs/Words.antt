@@ -1,5 +1,5 @@
 -- Where the words of this crate's proofs are defined: its files name them from here. `.ci/words` keeps this file.
-pub use Rattle.std.proofs.Common.{Bool, Err, List, None, Ok, Option, Result, Some, [], ap, append-nil, append_assoc, arith, drop, false, filter, fold, get_or, if◌then◌else◌, length, length-append, map, not, option_and_then, refl, slice_set, subst, suc, sym, take, true, zero, ℕ, ◌&&◌, ◌++◌, ◌+◌, ◌-◌, ◌<◌, ◌==◌, ◌∙◌, ◌∷◌, ◌≡◌, ◌≢◌, ◌≤◌}
+pub use Rattle.std.proofs.Common.{Bool, Err, List, None, Ok, Option, Some, [], ap, append-nil, append_assoc, arith, drop, false, filter, fold, get_or, if◌then◌else◌, length, length-append, map, not, option_and_then, refl, slice_set, subst, suc, sym, take, true, zero, ℕ, ◌&&◌, ◌++◌, ◌+◌, ◌-◌, ◌<◌, ◌==◌, ◌∙◌, ◌∷◌, ◌≡◌, ◌≢◌, ◌≤◌}
 pub use Rattle.std.proofs.lemmas.Bool.Decides.{nat_tests}
 pub use Rattle.std.proofs.lemmas.List.{drop_all, drop_more, get_or-map, length-map, map-append, reverse-append, take-append-drop, take_all, take_more}
 pub use Rattle.std.proofs.lemmas.List.Concat.{flat_map-cons}
@@ -8,10 +8,9 @@ pub use Rattle.std.proofs.lemmas.Result.{err_from_is_err_and}
 pub use Rattle.std.specs.List.{AllByRecursion, flat_map}
 pub use Rattle.std.specs.Option.{option_or}
 pub use Rattle.std.specs.Prelude.{is_some, slice_get}
-pub use Rattle.td_outside.specs.Causes.{Rose}
 pub use Rattle.td_outside.specs.Sink.{SinkState}
 pub use Rattle.td_outside.specs.declared.fails.Failed.{Failed}
-pub use Rattle.sink_lines.proofs.Written.{BeginsLines-more, BeginsLines-then, WritesLines-then, none_written}
+pub use Rattle.sink_lines.proofs.Written.{WritesLines-then, both_written, ended_early, none_written}
 pub use Rattle.sink_lines.specs.Lines.{WritesLines, Writing}
 pub use Rattle.teredo_node.specs.declared.fate.Fate.{Fate}
 pub use Rattle.topology.specs.Rows.{TopologyState}
@@ -39,7 +38,7 @@ pub use Rattle.load_keeper.specs.declared.load_keeper.LoadKeeper.{LoadKeeper}
 pub use Rattle.load_lines.specs.Counts.{Counts}
 pub use Rattle.load_lines.specs.declared.counts.EndCounts.{EndCounts}
 pub use Rattle.load_ends.specs.AtEnd.{entries_from, rows_by_entry, rows_from, where_is, whereabouts_of}
-pub use Rattle.load_ends.specs.Changes.{changed_at, packet_number, part_after_saying, part_of, part_with_entry, rows_after_saying, rows_handed_in, unsaid, with_part}
+pub use Rattle.load_ends.specs.Changes.{kept_in_row, packet_number, part_after_saying, part_with_entry, rows_after_saying, rows_changed_at, rows_handed_in, unsaid, with_part}
 pub use Rattle.load_ends.specs.Table.{TellsEnds, no_entries, part_told, row_told}
 pub use Rattle.load_ends.specs.declared.ends_table.EndsTable.{EndsTable}
 pub use Rattle.load_ends.specs.declared.load_row.LoadRow.{LoadRow}

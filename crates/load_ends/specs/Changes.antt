@@ -14,9 +14,9 @@ packet_number (Packet k) = k
 packet_number (ReplyTo k) = k
 
 -- what a row keeps of a load: of its packet, or of the reply
-abbrev pub part_of : Load → PacketRow → LoadRow
-part_of (Packet k) row = row.packet
-part_of (ReplyTo k) row = row.reply
+abbrev pub kept_in_row : Load → PacketRow → LoadRow
+kept_in_row (Packet k) row = row.packet
+kept_in_row (ReplyTo k) row = row.reply
 
 -- the row with this kept of the load
 abbrev pub with_part : Load → LoadRow → PacketRow → PacketRow
@@ -32,14 +32,14 @@ abbrev pub part_with_entry : ℕ → LoadRow → LoadRow
 part_with_entry e part = record part { undelivered = Some e }
 
 -- these rows, of which the one at a place is changed
-abbrev pub changed_at : (PacketRow → PacketRow) → ℕ → List PacketRow → List PacketRow
-changed_at change k [] = []
-changed_at change zero (row ∷ rows) = change row ∷ rows
-changed_at change (suc k) (row ∷ rows) = row ∷ changed_at change k rows
+abbrev pub rows_changed_at : (PacketRow → PacketRow) → ℕ → List PacketRow → List PacketRow
+rows_changed_at change k [] = []
+rows_changed_at change zero (row ∷ rows) = change row ∷ rows
+rows_changed_at change (suc k) (row ∷ rows) = row ∷ rows_changed_at change k rows
 
 -- these rows, where what is kept of a load is changed
 abbrev pub rows_changed : (LoadRow → LoadRow) → Load → List PacketRow → List PacketRow
-rows_changed change l rows = changed_at (λ (row : PacketRow). with_part l (change (part_of l row)) row) (packet_number l) rows
+rows_changed change l rows = rows_changed_at (λ (row : PacketRow). with_part l (change (kept_in_row l row)) row) (packet_number l) rows
 
 -- these rows once record i said this
 abbrev pub rows_after_saying : ℕ → List PacketRow → Saying → List PacketRow

@@ -1,6 +1,6 @@
 //! What is kept of a packet and of the reply to it.
 ghost use Rattle.std.specs.Prelude.{◌≡◌};
-ghost use Rattle.load_ends.specs.Changes.{packet_number, part_of, with_part};
+ghost use Rattle.load_ends.specs.Changes.{packet_number, kept_in_row, with_part};
 
 use crate::load_row::LoadRow;
 use loads::Load;
@@ -29,7 +29,7 @@ pub fn packet_number(load: Load) -> u32
 impl PacketRow {
     /// What is kept of the packet, or of the reply.
     pub fn part(self, load: Load) -> LoadRow
-        ensures { result ≡ part_of load self }
+        ensures { result ≡ kept_in_row load self }
     {
         match load {
             Load::Packet(_) => self.packet,

@@ -1,5 +1,5 @@
 -- What is asked of a node's loads is what its journal's mentions say.
-use Rattle.load_keeper.proofs.Words.{Bool, Ends, Ep, Held, HeldLoad, HeldRecord, Ip6, KeepsLoadsOf, List, Load, Loads, Mention, NodeKept, None, Option, Peer, PeerLoads, Saying, Some, Touch, [], ap, arrives_if, false, filter, flat_map, flat_map-append, flat_map-map, held_for, held_record, if◌then◌else◌, in_order, is_listed, is_lower_ip6, is_same_source, is_some, known, length, listed, listed_in_order, listed_is_known, lists_peer, load_at, loads_for_peer, loads_known, loads_known_or_none, loads_of_peer, map, no_loads, no_peer, number_in, option_map, peer_at, peers_in_order, refl, reverse, reverse-reverse, said_to_end, saying, says_of_held, says_to_end, sym, touched, true, unwrap_or, waiting_records, ℕ, ◌++◌, ◌||◌, ◌∙◌, ◌∷◌, ◌≡◌, ◌≤◌}
+use Rattle.load_keeper.proofs.Words.{Bool, Held, HeldLoad, HeldRecord, Ip6, KeepsLoadsOf, List, Load, Mention, NodeKept, None, Option, Peer, PeerLoads, Some, Touch, [], ap, false, filter, flat_map, flat_map-append, held_for, held_record, if◌then◌else◌, in_order, is_listed, is_lower_ip6, is_some, known, listed, listed_in_order, listed_is_known, lists_peer, load_at, loads_for_peer, loads_known_or_none, loads_of_peer, map, no_loads, no_peer, number_in, option_map, peer_at, peers_in_order, refl, reverse, reverse-reverse, sym, touched, true, unwrap_or, waiting_records, ℕ, ◌++◌, ◌∙◌, ◌∷◌, ◌≡◌, ◌≤◌}
 
 module _ (ls : List (Option Load)) (j : List Mention) (m0 : ℕ) (s : NodeKept) (keeps : KeepsLoadsOf ls j m0 s) (m : ℕ) (later : m0 ≤ m) where
   -- what is known of a peer, listed or not

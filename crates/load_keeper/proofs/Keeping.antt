@@ -1,5 +1,5 @@
 -- What a node keeps after something that means this for one of its peers.
-use Rattle.load_keeper.proofs.Words.{Bool, Effect, Ep, GivesUp, Hears, HeldLoad, Holds, Ip6, KeptLoad, LISTED_MS, List, Load, NodeKept, None, Nothing, Option, PeerLoads, Queues, Some, Tests, Touch, Touches, [], after_effect, after_keeping, after_touch, ap, false, filter, filter-append, filter_map, filter_map-append, find, held_in, if◌then◌else◌, is_held_from, is_kept_of, is_young_touch, is_younger, kept_of_others, lists_peer, load_that_is_held, load_that_waits, loads_known, loads_known_or_none, loads_of_peer, map, no_loads, not, nothing_kept, option_map, option_to_list, outlasts_giving_up, refl, same_ip6, same_ip6-self, same_ip6-true, sym, touches_peer, true, unwrap_or, waiting_in, with_touch, ℕ, ◌++◌, ◌∙◌, ◌∷◌, ◌≡◌}
+use Rattle.load_keeper.proofs.Words.{Bool, Effect, Ep, GivesUp, Hears, HeldLoad, Holds, Ip6, KeptLoad, LISTED_MS, List, Load, NodeKept, None, Nothing, Option, PeerLoads, Queues, Some, Tests, Touch, Touches, [], after_effect, after_keeping, after_touch, ap, false, filter, filter-append, filter_map, filter_map-append, find, if◌then◌else◌, is_kept_of, is_young_touch, is_younger, kept_of_others, lists_peer, load_that_is_held, load_that_waits, loads_held, loads_known, loads_known_or_none, loads_of_peer, loads_waiting, no_loads, not, option_map, option_to_list, outlasts_giving_up, refl, same_ip6, same_ip6-self, same_ip6-true, sym, touches_peer, true, with_touch, ℕ, ◌++◌, ◌∙◌, ◌∷◌, ◌≡◌}
 use Rattle.std.proofs.Common.{append-nil}
 use Rattle.load_keeper.proofs.Lists.{find_kept, find_none, filter_kept, filter_none, find_behind, find_before}
 
@@ -57,16 +57,16 @@ module _ (p : Ip6) (ks : List KeptLoad) (k : KeptLoad) where
   behind false is = filter-append (is_kept_of p) ks (k ∷ []) ∙ rw is refl
 
   pub kept_more : is_kept_of p k ≡ true → loads_of_peer (ks ++ k ∷ []) p
-      ≡ both (waiting_in ks p ++ option_to_list (load_that_waits k.from k.load)) (held_in ks p ++ option_to_list (load_that_is_held k.from k.load))
+      ≡ both (loads_waiting ks p ++ option_to_list (load_that_waits k.from k.load)) (loads_held ks p ++ option_to_list (load_that_is_held k.from k.load))
   kept_more is = ap loads_in (behind true is)
       ∙ rw (
         filter_map-append (λ (k : KeptLoad). load_that_waits k.from k.load) (filter (is_kept_of p) ks) (k ∷ []),
         filter_map-append (λ (k : KeptLoad). load_that_is_held k.from k.load) (filter (is_kept_of p) ks) (k ∷ []),
       )
       (one_more k.from) where
-        one_more : (o : Option Ep) → both (waiting_in ks p ++ filter_map (λ (k : KeptLoad). load_that_waits k.from k.load) (record { who = k.who; from = o; load = k.load } ∷ []))
-            (held_in ks p ++ filter_map (λ (k : KeptLoad). load_that_is_held k.from k.load) (record { who = k.who; from = o; load = k.load } ∷ []))
-            ≡ both (waiting_in ks p ++ option_to_list (load_that_waits o k.load)) (held_in ks p ++ option_to_list (load_that_is_held o k.load))
+        one_more : (o : Option Ep) → both (loads_waiting ks p ++ filter_map (λ (k : KeptLoad). load_that_waits k.from k.load) (record { who = k.who; from = o; load = k.load } ∷ []))
+            (loads_held ks p ++ filter_map (λ (k : KeptLoad). load_that_is_held k.from k.load) (record { who = k.who; from = o; load = k.load } ∷ []))
+            ≡ both (loads_waiting ks p ++ option_to_list (load_that_waits o k.load)) (loads_held ks p ++ option_to_list (load_that_is_held o k.load))
         one_more None = refl
         one_more (Some from) = refl
 
@@ -126,26 +126,26 @@ module _ (s : NodeKept) (q : Ip6) (m : ℕ) where
     by false is = rw (is, listed, same_of_other p q s.kept other) refl
 
 -- what is left of its peer when it gives up
-giving_waits : (q : Ip6) (ks : List KeptLoad) → waiting_in (filter (outlasts_giving_up q) ks) q ≡ []
+giving_waits : (q : Ip6) (ks : List KeptLoad) → loads_waiting (filter (outlasts_giving_up q) ks) q ≡ []
 giving_waits q [] = refl
 giving_waits q (k ∷ ks) = by (giving_waits q ks) (is_kept_of q k) refl where
-  kept : waiting_in (filter (outlasts_giving_up q) ks) q ≡ [] → is_kept_of q k ≡ true → (o : Option Ep) → k.from ≡ o → waiting_in (filter (outlasts_giving_up q) (k ∷ ks)) q ≡ []
+  kept : loads_waiting (filter (outlasts_giving_up q) ks) q ≡ [] → is_kept_of q k ≡ true → (o : Option Ep) → k.from ≡ o → loads_waiting (filter (outlasts_giving_up q) (k ∷ ks)) q ≡ []
   kept more is None from = rw (is, from) more
   kept more is (Some f) from = rw (is, from, is) more
 
-  by : waiting_in (filter (outlasts_giving_up q) ks) q ≡ [] → (b : Bool) → is_kept_of q k ≡ b → waiting_in (filter (outlasts_giving_up q) (k ∷ ks)) q ≡ []
+  by : loads_waiting (filter (outlasts_giving_up q) ks) q ≡ [] → (b : Bool) → is_kept_of q k ≡ b → loads_waiting (filter (outlasts_giving_up q) (k ∷ ks)) q ≡ []
   by more true is = kept more is k.from refl
   by more false is = rw (is, is) more
 
-giving_held : (q : Ip6) (ks : List KeptLoad) → held_in (filter (outlasts_giving_up q) ks) q ≡ held_in ks q
+giving_held : (q : Ip6) (ks : List KeptLoad) → loads_held (filter (outlasts_giving_up q) ks) q ≡ loads_held ks q
 giving_held q [] = refl
 giving_held q (k ∷ ks) = by (giving_held q ks) (is_kept_of q k) refl where
-  kept : held_in (filter (outlasts_giving_up q) ks) q ≡ held_in ks q → is_kept_of q k ≡ true → (o : Option Ep) → k.from ≡ o
-      → held_in (filter (outlasts_giving_up q) (k ∷ ks)) q ≡ held_in (k ∷ ks) q
+  kept : loads_held (filter (outlasts_giving_up q) ks) q ≡ loads_held ks q → is_kept_of q k ≡ true → (o : Option Ep) → k.from ≡ o
+      → loads_held (filter (outlasts_giving_up q) (k ∷ ks)) q ≡ loads_held (k ∷ ks) q
   kept more is None from = rw (is, from) more
   kept more is (Some f) from = rw (is, from, is) (ap (λ (hs : List HeldLoad). record { from = f; load = k.load } ∷ hs) more)
 
-  by : held_in (filter (outlasts_giving_up q) ks) q ≡ held_in ks q → (b : Bool) → is_kept_of q k ≡ b → held_in (filter (outlasts_giving_up q) (k ∷ ks)) q ≡ held_in (k ∷ ks) q
+  by : loads_held (filter (outlasts_giving_up q) ks) q ≡ loads_held ks q → (b : Bool) → is_kept_of q k ≡ b → loads_held (filter (outlasts_giving_up q) (k ∷ ks)) q ≡ loads_held (k ∷ ks) q
   by more true is = kept more is k.from refl
   by more false is = rw (is, is) more
 
@@ -169,11 +169,11 @@ module _ (s : NodeKept) (q : Ip6) (m : ℕ) (from : Option Ep) (l : Option Load)
       → loads_known (after_effect x q m from l s) n q ≡ (if is_younger LISTED_MS n m then Some (after_on x f l (loads_known_or_none s m q)) else None)
   known_of_touched Touches f touches comes = known_if (after_touch q m s) n q (is_younger LISTED_MS n m) (loads_known_or_none s m q) (touched_listed s q m n) (touched_kept s q m)
   known_of_touched Queues f touches comes = known_if (after_effect Queues q m from l s) n q (is_younger LISTED_MS n m) (after_on Queues f l (loads_known_or_none s m q)) (touched_listed s q m n)
-      (kept_more q (after_touch q m s).kept (record { who = q; from = None; load = l }) (same_ip6-self q) ∙ rw (append_none (held_in (after_touch q m s).kept q)) (ap (after_on Queues f l) (touched_kept s q m)))
+      (kept_more q (after_touch q m s).kept (record { who = q; from = None; load = l }) (same_ip6-self q) ∙ rw (append_none (loads_held (after_touch q m s).kept q)) (ap (after_on Queues f l) (touched_kept s q m)))
   known_of_touched Hears f touches comes = known_if (after_effect Hears q m from l s) n q (is_younger LISTED_MS n m) no_loads (touched_listed s q m n)
       (none_of_it q (after_touch q m s).kept)
   known_of_touched Tests f touches comes = rw comes (known_if (after_effect Tests q m (Some f) l s) n q (is_younger LISTED_MS n m) (after_on Tests f l (loads_known_or_none s m q)) (touched_listed s q m n)
-      (kept_more q (after_touch q m s).kept (record { who = q; from = Some f; load = l }) (same_ip6-self q) ∙ rw (append_none (waiting_in (after_touch q m s).kept q)) (ap (after_on Tests f l) (touched_kept s q m))))
+      (kept_more q (after_touch q m s).kept (record { who = q; from = Some f; load = l }) (same_ip6-self q) ∙ rw (append_none (loads_waiting (after_touch q m s).kept q)) (ap (after_on Tests f l) (touched_kept s q m))))
   known_of_touched Nothing f touches comes = absurd (cc touches)
   known_of_touched Holds f touches comes = absurd (cc touches)
   known_of_touched GivesUp f touches comes = absurd (cc touches)
@@ -187,7 +187,7 @@ module _ (s : NodeKept) (q : Ip6) (m : ℕ) (from : Option Ep) (l : Option Load)
     by false is = rw is refl
   known_of_untouched Holds f touches comes = rw comes (by (lists_peer s.touches n q) refl) where
     by : (b : Bool) → lists_peer s.touches n q ≡ b → loads_known (after_effect Holds q m (Some f) l s) n q ≡ option_map (after_on Holds f l) (loads_known s n q)
-    by true is = rw is (ap Some (kept_more q s.kept (record { who = q; from = Some f; load = l }) (same_ip6-self q) ∙ rw (append_none (waiting_in s.kept q)) refl))
+    by true is = rw is (ap Some (kept_more q s.kept (record { who = q; from = Some f; load = l }) (same_ip6-self q) ∙ rw (append_none (loads_waiting s.kept q)) refl))
     by false is = rw is refl
   known_of_untouched GivesUp f touches comes = by (lists_peer s.touches n q) refl where
     by : (b : Bool) → lists_peer s.touches n q ≡ b → loads_known (after_effect GivesUp q m from l s) n q ≡ option_map (after_on GivesUp f l) (loads_known s n q)

@@ -1,5 +1,5 @@
 -- What a node keeps is what its journal's mentions say, one entry after the other.
-use Rattle.load_keeper.proofs.Words.{Bearing, Bool, Effect, Ep, GivesUp, Hears, Held, HeldLoad, Holds, Ip6, KeepsLoadsOf, LISTED_MS, List, Load, Mention, NodeKept, None, Nothing, Option, Peer, PeerLoads, Queues, Some, Tests, Touch, Touches, [], after, after_effect, after_touch, ap, false, filter, filter-append, find, if◌then◌else◌, is_about, is_younger, le_trans, load_at, loads_for_peer, loads_known, loads_known_or_none, map, map-append, no_loads, no_peer, not, number_in, one_entry, option_map, option_to_list, peer_at, peer_if, refl, reverse, reverse_onto, same_ip6, same_ip6-true, subst, sym, touched, touches_peer, true, unwrap_or, view_after, with_peer, with_touch, ℕ, ◌++◌, ◌||◌, ◌∙◌, ◌∷◌, ◌≡◌, ◌≤◌}
+use Rattle.load_keeper.proofs.Words.{Bearing, Bool, Effect, Ep, GivesUp, Hears, Held, HeldLoad, Holds, Ip6, KeepsLoadsOf, LISTED_MS, List, Load, Mention, NodeKept, None, Nothing, Option, Peer, PeerLoads, Queues, Some, Tests, Touch, Touches, [], after, after_effect, ap, false, filter, filter-append, if◌then◌else◌, is_about, is_younger, le_trans, load_at, loads_for_peer, loads_known, loads_known_or_none, map, map-append, no_loads, no_peer, not, number_in, one_entry, option_map, option_to_list, peer_at, peer_if, refl, reverse, reverse_onto, same_ip6, same_ip6-true, subst, sym, touched, touches_peer, true, unwrap_or, with_peer, with_touch, ℕ, ◌++◌, ◌||◌, ◌∙◌, ◌∷◌, ◌≡◌, ◌≤◌}
 use Rattle.std.proofs.Common.{append-nil}
 use Rattle.load_keeper.proofs.Keeping.{does_touch, after_on, ComesFrom, known_of_touched, known_of_untouched, known_of_other}
 
@@ -76,6 +76,19 @@ module _ (q : Ip6) where
 
 -- ONE ENTRY MORE
 
+-- An entry is about a peer, of whom this effect is noted, with the load of its packet, and where that came from.
+pub record Noting (ls : List (Option Load)) (e : Mention) : Type 0 where
+  pub q : Ip6
+  pub about : e.peer ≡ Some q
+  pub x : Effect
+  pub f : Ep
+  pub y : List ℕ
+  pub bears : BearsAs x f y e.bearing
+  pub from : Option Ep
+  pub l : Option Load
+  pub at : load_at ls (number_in y) ≡ l
+  pub comes : ComesFrom x from f
+
 module _ (ls : List (Option Load)) (j : List Mention) (m0 : ℕ) (s : NodeKept) (keeps : KeepsLoadsOf ls j m0 s)
     (e : Mention) (later : m0 ≤ e.moment) where
   abbrev image : Option Peer → Option PeerLoads
@@ -98,8 +111,9 @@ module _ (ls : List (Option Load)) (j : List Mention) (m0 : ℕ) (s : NodeKept) 
   }
 
   -- about a peer, of whom this effect is noted
-  module _ (q : Ip6) (about : e.peer ≡ Some q) (x : Effect) (f : Ep) (y : List ℕ) (bears : BearsAs x f y e.bearing) (from : Option Ep) (l : Option Load) (at : load_at ls (number_in y) ≡ l)
-      (comes : ComesFrom x from f) where
+  module _ (the : Noting ls e) where
+    open the use {q, about, x, f, y, bears, from, l, at, comes}
+
     abbrev s' : NodeKept
     s' = after_effect x q e.moment from l s
 

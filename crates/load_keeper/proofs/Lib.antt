@@ -1,6 +1,7 @@
 mod Words
 pub mod Whole
 pub mod Lists
+pub mod Touches
 pub mod Keeping
 pub mod Known
 pub mod Numbers

@@ -1,5 +1,5 @@
 -- Lists of which a part is taken.
-use Rattle.load_keeper.proofs.Words.{Bool, List, None, Option, Some, [], ap, false, filter, filter_map, find, not, refl, sym, true, ◌++◌, ◌∙◌, ◌∷◌, ◌≡◌}
+use Rattle.load_keeper.proofs.Words.{Bool, List, None, Some, [], ap, false, filter, find, refl, true, ◌++◌, ◌∷◌, ◌≡◌}
 
 module _ {A : Type 0} where
   -- a test finds the same among what another one lets through, where that lets through all that it passes

@@ -1,5 +1,5 @@
 -- Lists that grow in a loop.
-use Rattle.load_keeper.proofs.Words.{Bool, Goes, Ip6, KeptLoad, List, Load, Mark, None, Option, Saying, Some, [], add-one, ap, append_assoc, arith, drop, drop-cons, entries_by_marks, entry_by_mark, false, filter, filter-append, filter_map, filter_map-append, find, flat_map, flat_map_more, get_or, is_kept_of, is_lower_ip6, length, length-take-le, load_at, map, option_to_list, put_by, refl, said_of_released, saying, says_of_one, slice_get, sym, take, take-append-drop, take_more, true, ℕ, ◌++◌, ◌+◌, ◌<◌, ◌∙◌, ◌∷◌, ◌≡◌, ◌≤◌}
+use Rattle.load_keeper.proofs.Words.{Bool, Goes, Ip6, KeptLoad, List, Load, Mark, None, Option, Saying, Some, [], add-one, ap, append_assoc, arith, drop, drop-cons, entries_by_marks, entry_by_mark, false, filter, filter-append, filter_map, filter_map-append, find, get_or, get_or-append_seam, get_or_append_left, get_or_past, is_kept_of, is_lower_ip6, length, length-append, length-take-le, load_at, put_by, refl, said_of_released, saying, says_of_one, slice_get, sym, take, take-append-drop, take_more, true, ℕ, ◌++◌, ◌+◌, ◌<◌, ◌∙◌, ◌∷◌, ◌≡◌, ◌≢◌, ◌≤◌}
 use Rattle.std.proofs.lemmas.List.{append-nil}
 use Rattle.load_keeper.proofs.Lists.{find_before, find_behind}
 
@@ -27,6 +27,16 @@ released_more old before after ms ls i d lt was more =
 pub next_load : (ls : List (Option Load)) (n : ℕ) → load_at (drop 1 ls) n ≡ load_at ls (n + 1)
 next_load [] n = refl
 next_load (l ∷ ls) n = rw (add-one n) refl
+
+-- the load of a send, of those that stand first, of the one behind them, and past it
+pub sent_first : (ls : List (Option Load)) (l : Option Load) (i : ℕ) → i < length ls → get_or ls i None ≡ load_at (ls ++ l ∷ []) i
+sent_first ls l i lt = sym (get_or_append_left ls (l ∷ []) None i lt)
+
+pub sent_last : (ls : List (Option Load)) (l : Option Load) (i : ℕ) → i ≡ length ls → l ≡ load_at (ls ++ l ∷ []) i
+sent_last ls l i at = sym (ap (load_at (ls ++ l ∷ [])) at ∙ get_or-append_seam ls l [] None)
+
+pub sent_none : (ls : List (Option Load)) (l : Option Load) (i : ℕ) → length ls ≤ i → i ≢ length ls → None ≡ load_at (ls ++ l ∷ []) i
+sent_none ls l i past other = sym (get_or_past (ls ++ l ∷ []) i None (omega (arith, past, other, length-append ls (l ∷ []))))
 
 entry_behind : (ms : List Mark) (m : Mark) (ls : List (Option Load)) → entries_by_marks (ms ++ m ∷ []) ls ≡ entries_by_marks ms ls ++ entry_by_mark m (load_at ls (length ms))
 entry_behind [] m ls = append-nil (entry_by_mark m (load_at ls 0))

@@ -1,5 +1,5 @@
 -- The numbers of records that stand in place of packets are those of records that were.
-use Rattle.load_keeper.proofs.Words.{AllByRecursion, Bearing, Bool, Entry, Ep, Fate, Full, Held, HeldLoad, IfSome, Ip6, Journal, KeepsLoadsOf, LISTED_MS, List, Load, Mention, Node, NodeKept, None, Option, Peer, PeerLoads, Some, TopologyState, [], add-one, after, ap, arith, bearing_of, client, false, get_or, get_or_append_left, held_of, if◌then◌else◌, is_about, is_changed, is_listed, is_node, is_restart, is_younger, journal, le_trans, length, length-append, load_at, load_given, loads, loads_for_peer, map, mention, mentions, mentions_by, nat, native, new_journal, no_peer, number_in, numbered_mentions, one_entry, option_map, option_to_list, peer_at, peer_if, refl, relay, relay_bearing_of, relay_mention, relay_mentions, server, source_of, subst, sym, true, unwrap_or, view_after, with_entries, with_entry, with_number, with_record_numbers, ℕ, ◌++◌, ◌+◌, ◌<◌, ◌||◌, ◌∙◌, ◌∷◌, ◌≡◌, ◌≤◌}
+use Rattle.load_keeper.proofs.Words.{AllByRecursion, Bool, Entry, Ep, Fate, Full, Held, HeldLoad, IfSome, Ip6, Journal, KeepsLoadsOf, LISTED_MS, List, Load, Mention, Node, NodeKept, None, Option, Peer, Some, TopologyState, [], add-one, after, arith, bearing_of, client, false, get_or_append_left, held_of, if◌then◌else◌, is_about, is_changed, is_listed, is_node, is_restart, is_younger, journal, le_trans, length, length-append, load_at, load_given, loads, loads_for_peer, map, mentions, mentions_by, nat, native, no_peer, number_in, one_entry, option_map, option_to_list, peer_at, peer_if, refl, relay, relay_bearing_of, relay_mentions, server, source_of, subst, sym, true, with_entries, with_number, with_record_numbers, ℕ, ◌++◌, ◌<◌, ◌||◌, ◌∙◌, ◌∷◌, ◌≡◌, ◌≤◌}
 use Rattle.teredo_node.specs.declared.fate.Fate.TheVariants as fate
 
 -- nothing is known where nothing was mentioned

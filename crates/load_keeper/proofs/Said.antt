@@ -1,5 +1,5 @@
 -- What a node's loads say of a record is what the record says of the loads.
-use Rattle.load_keeper.proofs.Words.{Bool, Ends, Ep, Fate, Full, HeldLoad, HeldRecord, Ip6, KeepsLoadsOf, List, Load, Loads, Mark, Mention, NodeKept, None, Option, Saying, Some, [], answer_to, ap, arrives_if, dropped_peers, dropped_records, drops_peers, ended_records, ends_holding, entry_peer, false, flat_map, flat_map-map, gives_up, goes_by, handed_of, hands_over_held, held_for, if◌then◌else◌, is_changed_address, is_late, is_restart, is_same_source, is_some, late_source, length, length-map, listed_in_order, load_at, load_given, loads_known_or_none, loads_released, makes_reply, map, marks_by, option_map, peers_dropped, peers_in_order, record_of, refl, releases_all, said_of_ended, said_of_given, said_of_released, said_to_end, said_with, saying, says_by, says_of_dropped, says_of_ended, says_of_given, says_of_held, says_to_end, slice_get, source_of_entry, sym, true, waiting_records, way_by_fate, ℕ, ◌&&◌, ◌++◌, ◌||◌, ◌∙◌, ◌∷◌, ◌≡◌, ◌≤◌}
+use Rattle.load_keeper.proofs.Words.{Bool, Ends, Ep, Fate, Full, HeldRecord, Ip6, KeepsLoadsOf, List, Load, Loads, Mark, Mention, NodeKept, None, Option, Saying, Some, [], answer_to, ap, arrives_if, dropped_peers, dropped_records, drops_peers, ended_records, ends_holding, entry_peer, false, flat_map, flat_map-map, gives_up, goes_by, handed_of, hands_over_held, held_for, if◌then◌else◌, is_late, is_same_source, is_some, late_source, length, length-map, listed_in_order, load_at, load_given, loads_known_or_none, loads_released, makes_reply, map, marks_by, option_map, peers_dropped, record_of, refl, releases_all, said_of_ended, said_of_released, said_to_end, said_with, saying, says_by, says_of_dropped, says_of_ended, says_of_given, says_of_held, says_to_end, slice_get, source_of_entry, sym, true, waiting_records, way_by_fate, ℕ, ◌&&◌, ◌++◌, ◌∙◌, ◌∷◌, ◌≡◌, ◌≤◌}
 use Rattle.load_keeper.proofs.Asked.{waiting_is, held_is, load_of_held, order_is, flat_of_flat, flat_alike}
 
 given_is : (f : Fate) (l : Option Load) (mark : Option Mark) (handed : Option (List ℕ))

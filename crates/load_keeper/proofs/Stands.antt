@@ -1,8 +1,8 @@
 -- A keeper that heard the next record stands for the history with it.
-use Rattle.load_keeper.proofs.Words.{AreKeptAfter, Bool, Entry, Ep, Full, Ip6, IsEntryOf, IsToldOf, KeepsLoadsOf, List, Load, LoadKeeper, Loads, Mention, NODES_MAX, Node, NodeKept, NodeLoads, None, Option, Record, Saying, Some, StandsForLoads, TopologyState, [], add-one, ap, arith, effect_at, entries_by_marks, entry_peer, false, get_or, get_or_past, handed_of, if◌then◌else◌, inl, inr, is_handing_in, is_new_address, is_node, is_restart, is_some, kept_after, kept_after_at, kept_at, length, length-append, length-map, load_at, load_by_act, load_given, load_goes_on, load_that_goes_on, loads, loads_released, made_loads, map, mentions_at, mentions_if, nat_eq, nat_tests, node_at, node_if, node_kept, nodes, nothing_kept, now, numbered_mentions, option_and_then, record_of, refl, released_records, sayings_of, says_by, slice_get, slice_get_cases, source_of, source_of_entry, subst, sym, true, unspecified, unwrap_or, ℕ, ◌++◌, ◌+◌, ◌<◌, ◌==◌, ◌||◌, ◌∙◌, ◌∷◌, ◌≡◌, ◌≤◌, ◌⊎◌}
+use Rattle.load_keeper.proofs.Words.{AreKeptAfter, Bool, Entry, Ep, Full, Ip6, IsToldOf, KeepsLoadsOf, List, Load, LoadKeeper, NODES_MAX, Node, NodeKept, NodeLoads, None, Option, Record, Saying, Some, StandsForLoads, TopologyState, [], ap, arith, begins_anew, effect_at, entries_by_marks, entry_peer, false, get_or, get_or_past, handed_of, if◌then◌else◌, inl, inr, is_handing_in, is_node, is_restart, is_some, kept_at, length, length-map, load_at, load_by_act, load_given, load_that_goes_on, loads, loads_released, made_loads, map, mentions_at, mentions_if, nat_eq, nat_tests, node_after, node_after_at, node_at, node_if, node_kept, nodes, nothing_kept, now, numbered_mentions, record_of, refl, released_records, sayings_of, says_by, slice_get, slice_get_cases, source_of_entry, subst, sym, true, unspecified, unwrap_or, ℕ, ◌++◌, ◌+◌, ◌<◌, ◌==◌, ◌∙◌, ◌∷◌, ◌≡◌, ◌≤◌, ◌⊎◌}
 use Rattle.load_keeper.proofs.Numbers.{records_counted}
 use Rattle.load_keeper.proofs.Said.{said_is, released_is}
-use Rattle.load_keeper.proofs.Steps.{keeps_nothing, step_of_other, step_of_restart, step_of_own}
+use Rattle.load_keeper.proofs.Steps.{OneRecord, keeps_nothing, step_of_other, step_of_restart, step_of_own}
 use Rattle.load_keeper.proofs.Whole.{IsWholeEntry, IsToldWhole, peer_by, source_by, whole, says_alike, released_alike, kept_alike}
 use Rattle.load_keeper.proofs.Wires.{by_marks, entries_are, given_is}
 
@@ -77,14 +77,17 @@ module _ (t : TopologyState) (k : LoadKeeper) (H : List Full) (stands : StandsFo
 
       -- what each node keeps
       each_is : (n : ℕ) (a : Node) → node_at t n ≡ Some a
-          → KeepsLoadsOf ((loads t H).records ++ given ∷ []) (numbered_mentions (r ∷ H) n a) r.moment (kept_after_at t (record_of r) peer from given r.node n (kept_at k.nodes.items (Some n)))
+          → KeepsLoadsOf ((loads t H).records ++ given ∷ []) (numbered_mentions (r ∷ H) n a) r.moment (node_after_at t (record_of r) peer from given r.node n (kept_at k.nodes.items (Some n)))
       each_is n a some = by r.node refl where
-        by : (o : Option ℕ) → r.node ≡ o → KeepsLoadsOf ((loads t H).records ++ given ∷ []) (numbered_mentions (r ∷ H) n a) r.moment (kept_after_at t (record_of r) peer from given o n (kept_at k.nodes.items (Some n)))
-        by None none = step_of_other (loads t H).records H n a r given (records_counted t H) heard.later (kept_at k.nodes.items (Some n)) (rw none refl) (stands.each n a some)
+        one : OneRecord
+        one = record { ls = (loads t H).records; H = H; n = n; a = a; r = r; l = given; counted = records_counted t H; later = heard.later }
+
+        by : (o : Option ℕ) → r.node ≡ o → KeepsLoadsOf ((loads t H).records ++ given ∷ []) (numbered_mentions (r ∷ H) n a) r.moment (node_after_at t (record_of r) peer from given o n (kept_at k.nodes.items (Some n)))
+        by None none = step_of_other one (kept_at k.nodes.items (Some n)) (rw none refl) (stands.each n a some)
         by (Some m) node = of (nat_eq m n) refl where
           of : (b : Bool) → nat_eq m n ≡ b → KeepsLoadsOf ((loads t H).records ++ given ∷ []) (numbered_mentions (r ∷ H) n a) r.moment
-              (if b then kept_after (node_at t n) (record_of r) peer from given (kept_at k.nodes.items (Some n)) else kept_at k.nodes.items (Some n))
-          of false other = step_of_other (loads t H).records H n a r given (records_counted t H) heard.later (kept_at k.nodes.items (Some n)) (rw node (turned false other)) (stands.each n a some) where
+              (if b then node_after (node_at t n) (record_of r) peer from given (kept_at k.nodes.items (Some n)) else kept_at k.nodes.items (Some n))
+          of false other = step_of_other one (kept_at k.nodes.items (Some n)) (rw node (turned false other)) (stands.each n a some) where
             turned : (b : Bool) → nat_eq m n ≡ b → (n == m) ≡ b
             turned b is = grind (arith, nat_tests)
           of true same = rw some (own (is_restart r.act) refl) where
@@ -97,12 +100,12 @@ module _ (t : TopologyState) (k : LoadKeeper) (H : List Full) (stands : StandsFo
             node_is : node_if t r.node ≡ Some a
             node_is = rw (node, here) some
 
-            own : (b : Bool) → is_restart r.act ≡ b → KeepsLoadsOf ((loads t H).records ++ given ∷ []) (numbered_mentions (r ∷ H) n a) r.moment (kept_after (Some a) (record_of r) peer from given (kept_at k.nodes.items (Some n)))
-            own true anew = let none : kept_after (Some a) (record_of r) peer from given (kept_at k.nodes.items (Some n)) ≡ nothing_kept = rw anew refl in
+            own : (b : Bool) → is_restart r.act ≡ b → KeepsLoadsOf ((loads t H).records ++ given ∷ []) (numbered_mentions (r ∷ H) n a) r.moment (node_after (Some a) (record_of r) peer from given (kept_at k.nodes.items (Some n)))
+            own true anew = let none : node_after (Some a) (record_of r) peer from given (kept_at k.nodes.items (Some n)) ≡ nothing_kept = rw anew refl in
                 subst (λ (z : NodeKept). KeepsLoadsOf ((loads t H).records ++ given ∷ []) (numbered_mentions (r ∷ H) n a) r.moment z) (sym none)
-                (step_of_restart (loads t H).records H n a r given (records_counted t H) heard.later (kept_at k.nodes.items (Some n)) its anew)
-            own false on = step_of_own (loads t H).records H n a r given (records_counted t H) heard.later (kept_at k.nodes.items (Some n)) (record { ip = record { 0 = [] }; port = 0 }) its on peer from (stands.each n a some)
-                (subst (λ (b : Option Node). IsWholeEntry (effect_at b r.fate) r peer from r.entry) node_is heard.entry) (λ none. subst (λ (b : Option Node). is_new_address b r.fate ≡ false) node_is (heard.changed none))
+                (step_of_restart one (kept_at k.nodes.items (Some n)) its anew)
+            own false on = step_of_own one (kept_at k.nodes.items (Some n)) (record { ip = record { 0 = [] }; port = 0 }) peer from (stands.each n a some) its on
+                (subst (λ (b : Option Node). IsWholeEntry (effect_at b r.fate) r peer from r.entry) node_is heard.entry) (λ none. subst (λ (b : Option Node). begins_anew b r.fate ≡ false) node_is (heard.changed none))
 
       pub stands_then : StandsForLoads t k' (r ∷ H)
       stands_then = record {
@@ -111,7 +114,7 @@ module _ (t : TopologyState) (k : LoadKeeper) (H : List Full) (stands : StandsFo
         count = was.nodes.count ∙ stands.count;
         few = subst (λ (c : ℕ). c ≤ NODES_MAX) (sym was.nodes.count) stands.few;
         each = λ n a some. subst (λ (s : NodeKept). KeepsLoadsOf (loads t (r ∷ H)).records (numbered_mentions (r ∷ H) n a) r.moment s)
-            (sym (was.nodes.each n (subst (λ (c : ℕ). n < c) (sym stands.count) (node_within t n a some)) ∙ ap (λ (l : Option Load). kept_after_at t (record_of r) peer from l r.node n (kept_at k.nodes.items (Some n))) given_by))
+            (sym (was.nodes.each n (subst (λ (c : ℕ). n < c) (sym stands.count) (node_within t n a some)) ∙ ap (λ (l : Option Load). node_after_at t (record_of r) peer from l r.node n (kept_at k.nodes.items (Some n))) given_by))
             (each_is n a some);
       }
 

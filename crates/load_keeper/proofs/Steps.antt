@@ -1,9 +1,9 @@
 -- What a node keeps after a record is what the history with that record says.
-use Rattle.load_keeper.proofs.Words.{Bool, Effect, Entry, Ep, Fate, Full, GivesUp, Hears, Holds, Ip6, KeepsItsPacket, KeepsLoadsOf, List, Load, Mention, Node, NodeKept, None, Nothing, Option, Queues, Some, Tests, Touches, [], after_effect, after_effect_on, ap, arith, bearing_of, client, client_effect, effect_at, false, get_or-append_seam, held_of, if◌then◌else◌, is_changed, is_changed_address, is_new_address, is_node, is_restart, is_some, journal, kept_after, length, load_at, mention, mentions, mentions_by, nat, native, nothing_kept, now, numbered_mentions, option_map, record_of, refl, relay, relay_bearing_of, relay_effect, relay_mention, relay_mentions, server, source_of, subst, sym, touched, true, unwrap_or, with_entries, with_number, with_record_numbers, ℕ, ◌++◌, ◌+◌, ◌∙◌, ◌∷◌, ◌≡◌, ◌≤◌}
+use Rattle.load_keeper.proofs.Words.{Bool, Effect, Entry, Ep, Fate, Full, GivesUp, Hears, Holds, Ip6, KeepsItsPacket, KeepsLoadsOf, List, Load, Mention, Node, NodeKept, None, Nothing, Option, Queues, Some, Tests, Touches, [], after_effect, after_effect_on, ap, arith, bearing_of, begins_anew, client, client_effect, effect_at, false, get_or-append_seam, held_of, if◌then◌else◌, is_changed, is_changed_address, is_node, is_restart, is_some, journal, length, load_at, mention, mentions, mentions_by, nat, native, node_after, nothing_kept, now, numbered_mentions, option_map, record_of, refl, relay, relay_bearing_of, relay_effect, relay_mention, relay_mentions, server, source_of, subst, sym, touched, true, unwrap_or, with_entries, with_number, with_record_numbers, ℕ, ◌++◌, ◌∙◌, ◌∷◌, ◌≡◌, ◌≤◌}
 use Rattle.teredo_node.specs.declared.fate.Fate.TheVariants as fate
 use Rattle.load_keeper.proofs.Keeping.{ComesFrom}
 use Rattle.load_keeper.proofs.Whole.{IsWholeEntry}
-use Rattle.load_keeper.proofs.Known.{BearsAs, keeps_about, keeps_about_nobody}
+use Rattle.load_keeper.proofs.Known.{BearsAs, Noting, keeps_about, keeps_about_nobody}
 use Rattle.load_keeper.proofs.Numbers.{none_at, mentions_below, journal_below, keeps_with_more}
 
 -- the same question
@@ -92,7 +92,29 @@ module _ (i : ℕ) (d : Ep) (e : Entry) where
 
 -- ONE RECORD MORE
 
-module _ (ls : List (Option Load)) (H : List Full) (n : ℕ) (a : Node) (r : Full) (l : Option Load) (counted : length ls ≡ length H) (later : now H ≤ r.moment) (s : NodeKept) where
+-- One record more, with the load that it carries, and a node that it may be of.
+pub record OneRecord : Type 0 where
+  pub ls : List (Option Load)
+  pub H : List Full
+  pub n : ℕ
+  pub a : Node
+  pub r : Full
+  pub l : Option Load
+  pub counted : length ls ≡ length H
+  pub later : now H ≤ r.moment
+
+-- What a node did in it: an entry of its moment, by this fate, and where its datagram came from.
+record OneEntry (moment : ℕ) : Type 0 where
+  e : Entry
+  at : e.moment ≡ moment
+  w : Fate
+  fate_is : e.step.fate ≡ w
+  from : Option Ep
+  source : source_of e.input ≡ from
+
+module _ (the : OneRecord) (s : NodeKept) where
+  open the use {ls, H, n, a, r, l, counted, later}
+
   abbrev ls' : List (Option Load)
   ls' = ls ++ l ∷ []
 
@@ -117,71 +139,84 @@ module _ (ls : List (Option Load)) (H : List Full) (n : ℕ) (a : Node) (r : Ful
   at_end = ap (λ (k : ℕ). load_at ls' k) (sym counted) ∙ get_or-append_seam ls l [] None
 
   -- it is that of this peer, or of none
-  module _ (d : Ep) (e : Entry) (moment : e.moment ≡ r.moment) (w : Fate) (fate_is : e.step.fate ≡ w) (from : Option Ep) (source : source_of e.input ≡ from) (keeps : KeepsLoadsOf ls (mentions_by a entries) (now H) s) where
+  module _ (d : Ep) (did : OneEntry r.moment) (keeps : KeepsLoadsOf ls (mentions_by a entries) (now H) s) where
+    open did use {e, w, fate_is, from, source}
+
     abbrev mention_after : Effect → Option Ip6 → NodeKept
     mention_after x peer = after_effect_on x peer r.moment from l s
 
     -- of a mention that means this
-    by_mention : (j : List Mention) → KeepsLoadsOf ls' j (now H) s → (m : Mention) → m.moment ≡ r.moment → m.peer ≡ e.peer → (x : Effect) → BearsAs x (ep_or d (source_of e.input)) (length H ∷ []) m.bearing
-        → ComesFrom x (source_of e.input) (ep_or d (source_of e.input)) → (peer : Option Ip6) → e.peer ≡ peer → KeepsLoadsOf ls' (m ∷ j) r.moment (mention_after x peer)
-    by_mention j old m at about x bears comes None none = subst (λ (k : ℕ). KeepsLoadsOf ls' (m ∷ j) k s) at
-        (keeps_about_nobody ls' j (now H) s old m (subst (λ (k : ℕ). now H ≤ k) (sym at) later) (about ∙ none))
-    by_mention j old m at about x bears comes (Some q) one = subst (λ (k : ℕ). KeepsLoadsOf ls' (m ∷ j) k (after_effect x q k from l s)) at
+    by_mention : (j : List Mention) → KeepsLoadsOf ls' j (now H) s → (m : Mention) → m.moment ≡ r.moment → (x : Effect) → BearsAs x (ep_or d (source_of e.input)) (length H ∷ []) m.bearing
+        → ComesFrom x (source_of e.input) (ep_or d (source_of e.input)) → (peer : Option Ip6) → m.peer ≡ peer → KeepsLoadsOf ls' (m ∷ j) r.moment (mention_after x peer)
+    by_mention j old m at x bears comes None none = subst (λ (k : ℕ). KeepsLoadsOf ls' (m ∷ j) k s) at
+        (keeps_about_nobody ls' j (now H) s old m (subst (λ (k : ℕ). now H ≤ k) (sym at) later) none)
+    by_mention j old m at x bears comes (Some q) about =
+        let noting : Noting ls' m = record {
+          q = q;
+          about = about;
+          x = x;
+          f = ep_or d (source_of e.input);
+          y = length H ∷ [];
+          bears = bears;
+          from = source_of e.input;
+          l = l;
+          at = at_end;
+          comes = comes;
+        } in
+        subst (λ (k : ℕ). KeepsLoadsOf ls' (m ∷ j) k (after_effect x q k from l s)) at
         (subst (λ (o : Option Ep). KeepsLoadsOf ls' (m ∷ j) m.moment (after_effect x q m.moment o l s)) source
-        (keeps_about ls' j (now H) s old m (subst (λ (k : ℕ). now H ≤ k) (sym at) later) q (about ∙ one) x (ep_or d (source_of e.input)) (length H ∷ []) bears (source_of e.input) l at_end comes))
+        (keeps_about ls' j (now H) s old m (subst (λ (k : ℕ). now H ≤ k) (sym at) later) noting))
 
     in_client : mentions_by a entries ≡ mentions entries → KeepsItsPacket (client_effect w) e.packet (source_of e.input) → (peer : Option Ip6) → e.peer ≡ peer → (b : Bool) → is_changed_address w ≡ b
         → KeepsLoadsOf ls' (mentions (with_number (length H) e ∷ entries)) r.moment (if b then nothing_kept else mention_after (client_effect w) peer)
     unfolding mentions
     in_client same packet peer about true new = let is : is_changed e.step.fate ≡ true = ap is_changed fate_is ∙ changed_alike w ∙ new in rw is (keeps_nothing ls' r.moment)
     in_client same packet peer about false old = let is : is_changed e.step.fate ≡ false = ap is_changed fate_is ∙ changed_alike w ∙ old in rw is
-        (by_mention (mentions entries) (subst (λ (j : List Mention). KeepsLoadsOf ls' j (now H) s) same (still keeps (now H) (omega arith))) (mention (with_number (length H) e)) moment refl (client_effect w)
+        (by_mention (mentions entries) (subst (λ (j : List Mention). KeepsLoadsOf ls' j (now H) s) same (still keeps (now H) (omega arith))) (mention (with_number (length H) e)) did.at (client_effect w)
         (subst (λ (v : Fate). BearsAs (client_effect w) (ep_or d (source_of e.input)) (length H ∷ []) (bearing_of v (with_number (length H) e))) (sym fate_is) (client_bears (length H) d e w packet))
         (comes_as (length H) d e (client_effect w) packet) peer about)
 
     in_relay : mentions_by a entries ≡ relay_mentions entries → KeepsItsPacket (relay_effect w) e.packet (source_of e.input) → (peer : Option Ip6) → e.peer ≡ peer
         → KeepsLoadsOf ls' (relay_mentions (with_number (length H) e ∷ entries)) r.moment (mention_after (relay_effect w) peer)
     unfolding relay_mentions
-    in_relay same packet peer about = by_mention (relay_mentions entries) (subst (λ (j : List Mention). KeepsLoadsOf ls' j (now H) s) same (still keeps (now H) (omega arith))) (relay_mention (with_number (length H) e)) moment refl
+    in_relay same packet peer about = by_mention (relay_mentions entries) (subst (λ (j : List Mention). KeepsLoadsOf ls' j (now H) s) same (still keeps (now H) (omega arith))) (relay_mention (with_number (length H) e)) did.at
         (relay_effect w)
         (subst (λ (v : Fate). BearsAs (relay_effect w) (ep_or d (source_of e.input)) (length H ∷ []) (relay_bearing_of v (with_number (length H) e))) (sym fate_is) (relay_bears (length H) d e w packet))
         (comes_as (length H) d e (relay_effect w) packet) peer about
 
--- a record of its own, whatever it did
-module _ (ls : List (Option Load)) (H : List Full) (n : ℕ) (a : Node) (r : Full) (l : Option Load) (counted : length ls ≡ length H) (later : now H ≤ r.moment) (s : NodeKept) where
-  abbrev old_entries : List Entry
-  old_entries = (journal n (with_record_numbers H)).entries
-
-  module _ (d : Ep) (its : is_node n r.node ≡ true) (on : is_restart r.act ≡ false) (peer : Option Ip6) (from : Option Ep) (keeps : KeepsLoadsOf ls (mentions_by a old_entries) (now H) s) where
+  -- a record of its own, whatever it did
+  module _ (d : Ep) (peer : Option Ip6) (from : Option Ep) (keeps : KeepsLoadsOf ls (mentions_by a entries) (now H) s) where
     -- with an entry
-    of_entry : (b : Node) → mentions_by a old_entries ≡ mentions_by b old_entries → (e : Entry) → e.moment ≡ r.moment → e.step.fate ≡ r.fate → e.peer ≡ peer → source_of e.input ≡ from
+    of_entry : (b : Node) → mentions_by a entries ≡ mentions_by b entries → (e : Entry) → e.moment ≡ r.moment → e.step.fate ≡ r.fate → e.peer ≡ peer → source_of e.input ≡ from
         → KeepsItsPacket (effect_at (Some b) r.fate) e.packet (source_of e.input)
-        → KeepsLoadsOf (ls ++ l ∷ []) (mentions_by b (with_number (length H) e ∷ old_entries)) r.moment
-        (if is_new_address (Some b) r.fate then nothing_kept else after_effect_on (effect_at (Some b) r.fate) peer r.moment from l s)
-    of_entry (server x) same e at w about source packet = subst (λ (z : NodeKept). KeepsLoadsOf (ls ++ l ∷ []) [] r.moment z) (sym (idle peer))
-        (subst (λ (j : List Mention). KeepsLoadsOf (ls ++ l ∷ []) j r.moment s) same (still ls H n a r l counted later s keeps r.moment later)) where
+        → KeepsLoadsOf ls' (mentions_by b (with_number (length H) e ∷ entries)) r.moment
+        (if begins_anew (Some b) r.fate then nothing_kept else after_effect_on (effect_at (Some b) r.fate) peer r.moment from l s)
+    of_entry (server x) same e at w about source packet = subst (λ (z : NodeKept). KeepsLoadsOf ls' [] r.moment z) (sym (idle peer))
+        (subst (λ (j : List Mention). KeepsLoadsOf ls' j r.moment s) same (still keeps r.moment later)) where
           idle : (o : Option Ip6) → after_effect_on Nothing o r.moment from l s ≡ s
           idle None = refl
           idle (Some q) = refl
-    of_entry (nat x) same e at w about source packet = subst (λ (z : NodeKept). KeepsLoadsOf (ls ++ l ∷ []) [] r.moment z) (sym (idle peer))
-        (subst (λ (j : List Mention). KeepsLoadsOf (ls ++ l ∷ []) j r.moment s) same (still ls H n a r l counted later s keeps r.moment later)) where
+    of_entry (nat x) same e at w about source packet = subst (λ (z : NodeKept). KeepsLoadsOf ls' [] r.moment z) (sym (idle peer))
+        (subst (λ (j : List Mention). KeepsLoadsOf ls' j r.moment s) same (still keeps r.moment later)) where
           idle : (o : Option Ip6) → after_effect_on Nothing o r.moment from l s ≡ s
           idle None = refl
           idle (Some q) = refl
-    of_entry (native x) same e at w about source packet = subst (λ (z : NodeKept). KeepsLoadsOf (ls ++ l ∷ []) [] r.moment z) (sym (idle peer))
-        (subst (λ (j : List Mention). KeepsLoadsOf (ls ++ l ∷ []) j r.moment s) same (still ls H n a r l counted later s keeps r.moment later)) where
+    of_entry (native x) same e at w about source packet = subst (λ (z : NodeKept). KeepsLoadsOf ls' [] r.moment z) (sym (idle peer))
+        (subst (λ (j : List Mention). KeepsLoadsOf ls' j r.moment s) same (still keeps r.moment later)) where
           idle : (o : Option Ip6) → after_effect_on Nothing o r.moment from l s ≡ s
           idle None = refl
           idle (Some q) = refl
-    of_entry (client x) same e at w about source packet = in_client ls H n a r l counted later s d e at r.fate w from source keeps same packet peer about (is_changed_address r.fate) refl
-    of_entry (relay x) same e at w about source packet = in_relay ls H n a r l counted later s d e at r.fate w from source keeps same packet peer about
+    of_entry (client x) same e at w about source packet =
+        in_client d (record { e = e; at = at; w = r.fate; fate_is = w; from = from; source = source }) keeps same packet peer about (is_changed_address r.fate) refl
+    of_entry (relay x) same e at w about source packet =
+        in_relay d (record { e = e; at = at; w = r.fate; fate_is = w; from = from; source = source }) keeps same packet peer about
 
-    by_entry : (o : Option Entry) → r.entry ≡ o → IsWholeEntry (effect_at (Some a) r.fate) r peer from o → (is_some o ≡ false → is_new_address (Some a) r.fate ≡ false)
-        → KeepsLoadsOf (ls ++ l ∷ []) (mentions_by a (with_entries (journal n (with_record_numbers H)) (option_map (with_number (length H)) o)).entries) r.moment
-        (if is_new_address (Some a) r.fate then nothing_kept else after_effect_on (effect_at (Some a) r.fate) peer r.moment from l s)
-    by_entry None is none stays = rw (stays refl, none.0) (still ls H n a r l counted later s keeps r.moment later)
+    by_entry : (o : Option Entry) → r.entry ≡ o → IsWholeEntry (effect_at (Some a) r.fate) r peer from o → (is_some o ≡ false → begins_anew (Some a) r.fate ≡ false)
+        → KeepsLoadsOf ls' (mentions_by a (with_entries (journal n (with_record_numbers H)) (option_map (with_number (length H)) o)).entries) r.moment
+        (if begins_anew (Some a) r.fate then nothing_kept else after_effect_on (effect_at (Some a) r.fate) peer r.moment from l s)
+    by_entry None is none stays = rw (stays refl, none.0) (still keeps r.moment later)
     by_entry (Some e) is some stays = of_entry a refl e some.0 some.1 some.2 some.3 (subst (λ (o : Option Ep). KeepsItsPacket (effect_at (Some a) r.fate) e.packet o) (sym some.3) some.4)
 
-    pub step_of_own : IsWholeEntry (effect_at (Some a) r.fate) r peer from r.entry → (is_some r.entry ≡ false → is_new_address (Some a) r.fate ≡ false)
-        → KeepsLoadsOf (ls ++ l ∷ []) (numbered_mentions (r ∷ H) n a) r.moment (kept_after (Some a) (record_of r) peer from l s)
-    step_of_own entry stays = rw (its, on) (by_entry r.entry refl entry stays)
+    pub step_of_own : is_node n r.node ≡ true → is_restart r.act ≡ false → IsWholeEntry (effect_at (Some a) r.fate) r peer from r.entry → (is_some r.entry ≡ false → begins_anew (Some a) r.fate ≡ false)
+        → KeepsLoadsOf ls' (numbered_mentions (r ∷ H) n a) r.moment (node_after (Some a) (record_of r) peer from l s)
+    step_of_own its on entry stays = rw (its, on) (by_entry r.entry refl entry stays)

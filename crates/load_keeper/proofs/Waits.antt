@@ -1,5 +1,6 @@
 -- Where a load waits, and where it is held: some listed peer has a packet with it, where something that is kept of one carries it.
-use Rattle.load_keeper.proofs.Words.{Bool, Ep, Full, HeldLoad, HeldRecord, IfSome, Ip6, KeepsLoadsOf, KeptLoad, List, Load, LoadKeeper, Loads, Mention, Node, NodeKept, NodeLoads, None, Option, Some, StandsForLoads, TopologyState, [], ap, arith, carries, carries_load, false, first_node, get_or, held_for, held_in, holding_node, is_held_among, is_load, keeping_node, keeps_load, length, list_any, listed, listed_are, lists_peer, load_at, loads, loads_known_or_none, map, node_kept, nodes, nothing_kept, now, numbered_mentions, position_from, refl, same_ip6, same_ip6-self, same_ip6-true, slice_get, subst, suc, sym, true, waiting_in, waiting_node, waiting_records, waits_among, ℕ, ◌&&◌, ◌+◌, ◌<◌, ◌||◌, ◌∙◌, ◌∷◌, ◌≡◌, ◌≤◌}
+use Rattle.load_keeper.proofs.Words.{Bool, Ep, Full, HeldLoad, HeldRecord, IfSome, Ip6, KeepsLoadsOf, KeptLoad, List, Load, LoadKeeper, Loads, Mention, Node, NodeKept, NodeLoads, None, Option, Some, StandsForLoads, TopologyState, [], ap, arith, carries, carries_load, false, first_node, get_or, held_for, holding_node, is_held_among, is_load, keeping_node, keeps_load, length, list_any, listed, listed_are, lists_peer, load_at, loads, loads_held, loads_known_or_none, loads_waiting, map, node_kept, nodes, nothing_kept, now, numbered_mentions, position_from, refl, same_ip6, same_ip6-true, slice_get, subst, suc, sym, true, waiting_node, waiting_records, waits_among, ℕ, ◌&&◌, ◌+◌, ◌<◌, ◌||◌, ◌∙◌, ◌∷◌, ◌≡◌, ◌≤◌}
+use Rattle.load_keeper.proofs.Touches.{same_turned}
 use Rattle.load_keeper.proofs.Asked.{waiting_is, held_is, load_of_held, listed_is}
 
 -- LISTS OF WHICH ONE PASSES
@@ -31,15 +32,6 @@ module _ {A : Type 0} where
   any_either : (f g : A → Bool) (xs : List A) → list_any (λ (x : A). f x || g x) xs ≡ list_any f xs || list_any g xs
   any_either f g [] = refl
   any_either f g (x ∷ xs) = ap (λ (b : Bool). (f x || g x) || b) (any_either f g xs) ∙ of_four (f x) (g x) (list_any f xs) (list_any g xs)
-
--- one is the other, from either side
-same_turned : (p q : Ip6) → same_ip6 p q ≡ same_ip6 q p
-same_turned p q = by (same_ip6 p q) refl (same_ip6 q p) refl where
-  by : (b : Bool) → same_ip6 p q ≡ b → (c : Bool) → same_ip6 q p ≡ c → same_ip6 p q ≡ same_ip6 q p
-  by true is true turned = is ∙ sym turned
-  by false is false turned = is ∙ sym turned
-  by true is false turned = let e : p ≡ q = same_ip6-true p q is in let f : true ≡ false = sym (same_ip6-self q) ∙ ap (λ (x : Ip6). same_ip6 q x) (sym e) ∙ turned in absurd (cc f)
-  by false is true turned = let e : q ≡ p = same_ip6-true q p turned in let f : true ≡ false = sym (same_ip6-self p) ∙ ap (λ (x : Ip6). same_ip6 p x) (sym e) ∙ is in absurd (cc f)
 
 -- LISTED PEERS, OF WHOM SOMETHING IS KEPT
 
@@ -87,37 +79,37 @@ module _ (lists : Ip6 → Bool) (ps : List Ip6) (are : (q : Ip6) → list_any (s
 -- WHAT IS KEPT OF ONE
 
 module _ (l : Load) (p : Ip6) where
-  waiting_carries : (ks : List KeptLoad) → list_any (is_load l) (waiting_in ks p) ≡ list_any (λ (k : KeptLoad). same_ip6 p k.who && carries_load false l k) ks
+  waiting_carries : (ks : List KeptLoad) → list_any (is_load l) (loads_waiting ks p) ≡ list_any (λ (k : KeptLoad). same_ip6 p k.who && carries_load false l k) ks
   waiting_carries [] = refl
   waiting_carries (k ∷ ks) = by (waiting_carries ks) (same_ip6 p k.who) refl k.from refl where
-    by : list_any (is_load l) (waiting_in ks p) ≡ list_any (λ (x : KeptLoad). same_ip6 p x.who && carries_load false l x) ks → (b : Bool) → same_ip6 p k.who ≡ b → (o : Option Ep) → k.from ≡ o
-        → list_any (is_load l) (waiting_in (k ∷ ks) p) ≡ list_any (λ (x : KeptLoad). same_ip6 p x.who && carries_load false l x) (k ∷ ks)
+    by : list_any (is_load l) (loads_waiting ks p) ≡ list_any (λ (x : KeptLoad). same_ip6 p x.who && carries_load false l x) ks → (b : Bool) → same_ip6 p k.who ≡ b → (o : Option Ep) → k.from ≡ o
+        → list_any (is_load l) (loads_waiting (k ∷ ks) p) ≡ list_any (λ (x : KeptLoad). same_ip6 p x.who && carries_load false l x) (k ∷ ks)
     by more false is o from = rw is more
     by more true is None from = rw (is, from) (kept (is_load l k.load) more) where
-      kept : (b : Bool) → list_any (is_load l) (waiting_in ks p) ≡ list_any (λ (x : KeptLoad). same_ip6 p x.who && carries_load false l x) ks
-          → b || list_any (is_load l) (waiting_in ks p) ≡ (b && true) || list_any (λ (x : KeptLoad). same_ip6 p x.who && carries_load false l x) ks
+      kept : (b : Bool) → list_any (is_load l) (loads_waiting ks p) ≡ list_any (λ (x : KeptLoad). same_ip6 p x.who && carries_load false l x) ks
+          → b || list_any (is_load l) (loads_waiting ks p) ≡ (b && true) || list_any (λ (x : KeptLoad). same_ip6 p x.who && carries_load false l x) ks
       kept true more = refl
       kept false more = more
     by more true is (Some f) from = rw (is, from) (kept (is_load l k.load) more) where
-      kept : (b : Bool) → list_any (is_load l) (waiting_in ks p) ≡ list_any (λ (x : KeptLoad). same_ip6 p x.who && carries_load false l x) ks
-          → list_any (is_load l) (waiting_in ks p) ≡ (b && false) || list_any (λ (x : KeptLoad). same_ip6 p x.who && carries_load false l x) ks
+      kept : (b : Bool) → list_any (is_load l) (loads_waiting ks p) ≡ list_any (λ (x : KeptLoad). same_ip6 p x.who && carries_load false l x) ks
+          → list_any (is_load l) (loads_waiting ks p) ≡ (b && false) || list_any (λ (x : KeptLoad). same_ip6 p x.who && carries_load false l x) ks
       kept true more = more
       kept false more = more
 
-  held_carries : (ks : List KeptLoad) → list_any (λ (h : HeldLoad). is_load l h.load) (held_in ks p) ≡ list_any (λ (k : KeptLoad). same_ip6 p k.who && carries_load true l k) ks
+  held_carries : (ks : List KeptLoad) → list_any (λ (h : HeldLoad). is_load l h.load) (loads_held ks p) ≡ list_any (λ (k : KeptLoad). same_ip6 p k.who && carries_load true l k) ks
   held_carries [] = refl
   held_carries (k ∷ ks) = by (held_carries ks) (same_ip6 p k.who) refl k.from refl where
-    by : list_any (λ (h : HeldLoad). is_load l h.load) (held_in ks p) ≡ list_any (λ (x : KeptLoad). same_ip6 p x.who && carries_load true l x) ks → (b : Bool) → same_ip6 p k.who ≡ b → (o : Option Ep) → k.from ≡ o
-        → list_any (λ (h : HeldLoad). is_load l h.load) (held_in (k ∷ ks) p) ≡ list_any (λ (x : KeptLoad). same_ip6 p x.who && carries_load true l x) (k ∷ ks)
+    by : list_any (λ (h : HeldLoad). is_load l h.load) (loads_held ks p) ≡ list_any (λ (x : KeptLoad). same_ip6 p x.who && carries_load true l x) ks → (b : Bool) → same_ip6 p k.who ≡ b → (o : Option Ep) → k.from ≡ o
+        → list_any (λ (h : HeldLoad). is_load l h.load) (loads_held (k ∷ ks) p) ≡ list_any (λ (x : KeptLoad). same_ip6 p x.who && carries_load true l x) (k ∷ ks)
     by more false is o from = rw is more
     by more true is (Some f) from = rw (is, from) (kept (is_load l k.load) more) where
-      kept : (b : Bool) → list_any (λ (h : HeldLoad). is_load l h.load) (held_in ks p) ≡ list_any (λ (x : KeptLoad). same_ip6 p x.who && carries_load true l x) ks
-          → b || list_any (λ (h : HeldLoad). is_load l h.load) (held_in ks p) ≡ (b && true) || list_any (λ (x : KeptLoad). same_ip6 p x.who && carries_load true l x) ks
+      kept : (b : Bool) → list_any (λ (h : HeldLoad). is_load l h.load) (loads_held ks p) ≡ list_any (λ (x : KeptLoad). same_ip6 p x.who && carries_load true l x) ks
+          → b || list_any (λ (h : HeldLoad). is_load l h.load) (loads_held ks p) ≡ (b && true) || list_any (λ (x : KeptLoad). same_ip6 p x.who && carries_load true l x) ks
       kept true more = refl
       kept false more = more
     by more true is None from = rw (is, from) (kept (is_load l k.load) more) where
-      kept : (b : Bool) → list_any (λ (h : HeldLoad). is_load l h.load) (held_in ks p) ≡ list_any (λ (x : KeptLoad). same_ip6 p x.who && carries_load true l x) ks
-          → list_any (λ (h : HeldLoad). is_load l h.load) (held_in ks p) ≡ (b && false) || list_any (λ (x : KeptLoad). same_ip6 p x.who && carries_load true l x) ks
+      kept : (b : Bool) → list_any (λ (h : HeldLoad). is_load l h.load) (loads_held ks p) ≡ list_any (λ (x : KeptLoad). same_ip6 p x.who && carries_load true l x) ks
+          → list_any (λ (h : HeldLoad). is_load l h.load) (loads_held ks p) ≡ (b && false) || list_any (λ (x : KeptLoad). same_ip6 p x.who && carries_load true l x) ks
       kept true more = more
       kept false more = more
 

@@ -1,5 +1,5 @@
 -- A record that is of no peer says and leaves the same, whichever peer it is told to be of.
-use Rattle.load_keeper.proofs.Words.{Bool, Effect, Entry, Ep, Fate, Full, Ip6, IsAskedFor, IsEntryOf, IsPeerOf, IsToldOf, KeepsItsPacket, List, Load, Node, NodeKept, None, Nothing, Option, Some, TopologyState, after_effect_on, ap, arith, changes_at, changes_client, changes_peer, client, client_effect, effect_at, ends_holding, false, gives_up, hands_over_held, if◌then◌else◌, is_new_address, is_of_peer, is_some, kept_after, kept_after_at, loads_released, nat, nat_eq, nat_tests, native, node_at, node_if, now, record_of, refl, relay, relay_effect, releases_all, says_by, server, source_of, subst, sym, true, unspecified, unwrap_or, ℕ, ◌||◌, ◌∙◌, ◌≡◌, ◌≤◌}
+use Rattle.load_keeper.proofs.Words.{Bool, Effect, Entry, Ep, Fate, Full, Ip6, IsAskedFor, IsEntryOf, IsPeerOf, IsToldOf, KeepsItsPacket, List, Load, Node, NodeKept, None, Nothing, Option, Some, TopologyState, after_effect_on, ap, arith, begins_anew, changes_at, changes_client, changes_peer, client, client_effect, effect_at, ends_holding, false, gives_up, hands_over_held, if◌then◌else◌, is_of_peer, is_some, loads_released, nat, nat_eq, nat_tests, native, node_after, node_after_at, node_at, node_if, now, record_of, refl, relay, relay_effect, releases_all, says_by, server, source_of, subst, sym, true, unspecified, unwrap_or, ℕ, ◌||◌, ◌∙◌, ◌≡◌, ◌≤◌}
 use Rattle.teredo_node.specs.declared.fate.Fate.TheVariants as fate
 
 -- WHAT IS TOLD, WITH THE PEER AND THE SOURCE OF THE ENTRY
@@ -24,7 +24,7 @@ pub record IsToldWhole (t : TopologyState) (H : List Full) (r : Full) (peer : Op
   pub later : now H ≤ r.moment
   pub delivers : IsAskedFor H r
   pub entry : IsWholeEntry (effect_at (node_if t r.node) r.fate) r peer from r.entry
-  pub changed : is_some r.entry ≡ false → is_new_address (node_if t r.node) r.fate ≡ false
+  pub changed : is_some r.entry ≡ false → begins_anew (node_if t r.node) r.fate ≡ false
 
 whole_entry : (x : Effect) (r : Full) (o : Option Entry) → IsEntryOf x r o → IsWholeEntry x r (peer_by o) (source_by o) o
 whole_entry x r None is = (refl, refl)
@@ -127,17 +127,17 @@ module _ (t : TopologyState) (x : Full) (peer : Option Ip6) (from : Option Ep) (
   pub released_alike : (s : NodeKept) → loads_released x.fate s x.moment (unwrap_or peer unspecified) ≡ loads_released x.fate s x.moment (unwrap_or (peer_by x.entry) unspecified)
   released_alike s = either (λ (p : Option Ip6) (o : Option Ep). loads_released x.fate s x.moment (unwrap_or p unspecified)) (λ is. rw is.releases refl)
 
-  own_alike : (l : Option Load) (s : NodeKept) → kept_after (node_if t x.node) (record_of x) peer from l s ≡ kept_after (node_if t x.node) (record_of x) (peer_by x.entry) (source_by x.entry) l s
-  own_alike l s = either (λ (p : Option Ip6) (o : Option Ep). kept_after (node_if t x.node) (record_of x) p o l s)
+  own_alike : (l : Option Load) (s : NodeKept) → node_after (node_if t x.node) (record_of x) peer from l s ≡ node_after (node_if t x.node) (record_of x) (peer_by x.entry) (source_by x.entry) l s
+  own_alike l s = either (λ (p : Option Ip6) (o : Option Ep). node_after (node_if t x.node) (record_of x) p o l s)
       (λ is. rw (is.effect, idle peer x.moment from l s, idle (peer_by x.entry) x.moment (source_by x.entry) l s) refl)
 
-  pub kept_alike : (l : Option Load) (n : ℕ) (s : NodeKept) → kept_after_at t (record_of x) peer from l x.node n s ≡ kept_after_at t (record_of x) (peer_by x.entry) (source_by x.entry) l x.node n s
+  pub kept_alike : (l : Option Load) (n : ℕ) (s : NodeKept) → node_after_at t (record_of x) peer from l x.node n s ≡ node_after_at t (record_of x) (peer_by x.entry) (source_by x.entry) l x.node n s
   kept_alike l n s = by_node x.node refl where
-    by_node : (o : Option ℕ) → x.node ≡ o → kept_after_at t (record_of x) peer from l o n s ≡ kept_after_at t (record_of x) (peer_by x.entry) (source_by x.entry) l o n s
+    by_node : (o : Option ℕ) → x.node ≡ o → node_after_at t (record_of x) peer from l o n s ≡ node_after_at t (record_of x) (peer_by x.entry) (source_by x.entry) l o n s
     by_node None is = refl
     by_node (Some k) is = by (nat_eq k n) refl where
-      by : (b : Bool) → nat_eq k n ≡ b → (if b then kept_after (node_at t n) (record_of x) peer from l s else s) ≡ (if b then kept_after (node_at t n) (record_of x) (peer_by x.entry) (source_by x.entry) l s else s)
+      by : (b : Bool) → nat_eq k n ≡ b → (if b then node_after (node_at t n) (record_of x) peer from l s else s) ≡ (if b then node_after (node_at t n) (record_of x) (peer_by x.entry) (source_by x.entry) l s else s)
       by true same = let here : k ≡ n = grind (arith, nat_tests) in
           let there : node_if t x.node ≡ node_at t n = ap (node_if t) is ∙ ap (node_at t) here in
-          subst (λ (a : Option Node). kept_after a (record_of x) peer from l s ≡ kept_after a (record_of x) (peer_by x.entry) (source_by x.entry) l s) there (own_alike l s)
+          subst (λ (a : Option Node). node_after a (record_of x) peer from l s ≡ node_after a (record_of x) (peer_by x.entry) (source_by x.entry) l s) there (own_alike l s)
       by false other = refl

@@ -1,5 +1,5 @@
 -- What a record puts onto the wire, by its marks.
-use Rattle.load_keeper.proofs.Words.{Act, Bool, Fate, Full, IsAskedFor, Item, List, Load, Loads, Made, Mark, None, Option, Packet, Some, TopologyState, [], add-one, after_made, answer_to, ap, arith, delivers, drop, entries_by_marks, entry_by_mark, entry_loads, false, filter_map, get_or, get_or_past, if◌then◌else◌, inl, inr, is_delivering, is_handing_in, item_in, length, length-append, load_at, load_by_act, load_given, load_goes_on, load_that_goes_on, loads, lost, made_loads, map, marks_of, number_delivered, option_and_then, others, refl, sent, six, slice_get, slice_get_cases, suc, sym, true, udp, wire, zero, ℕ, ◌++◌, ◌+◌, ◌<◌, ◌||◌, ◌∙◌, ◌∷◌, ◌≡◌, ◌≤◌, ◌⊎◌}
+use Rattle.load_keeper.proofs.Words.{Act, Fate, Full, IsAskedFor, List, Load, Loads, Made, Mark, None, Option, Packet, Some, TopologyState, [], after_made, ap, arith, delivers, drop, entries_by_marks, entry_loads, false, filter_map, get_or, get_or_past, if◌then◌else◌, inl, inr, is_delivering, is_handing_in, item_in, length, length-append, load_at, load_by_act, load_given, load_goes_on, load_that_goes_on, loads, lost, made_loads, marks_of, others, refl, sent, six, slice_get, slice_get_cases, suc, sym, udp, wire, zero, ℕ, ◌++◌, ◌+◌, ◌<◌, ◌∙◌, ◌∷◌, ◌≡◌, ◌≤◌, ◌⊎◌}
 use Rattle.teredo_node.specs.declared.fate.Fate.TheVariants as fate
 use Rattle.history.specs.declared.act.Act.TheVariants as act
 use Rattle.load_keeper.proofs.Loops.{next_load}

@@ -1,13 +1,12 @@
 -- What a record says, by what its node keeps of the loads.
-use Rattle.std.specs.Prelude.{◌≡◌, ◌+◌, ℕ, Bool, true, false, ◌||◌, if◌then◌else◌, List, [], ◌∷◌, ◌++◌, length, map, drop, filter, reverse, slice_get, Option, Some, None, option_and_then, unwrap_or}
+use Rattle.std.specs.Prelude.{ℕ, Bool, false, ◌||◌, if◌then◌else◌, List, [], ◌∷◌, ◌++◌, length, map, drop, filter, reverse, slice_get, Option, Some, None, option_and_then}
 use Rattle.std.specs.List.{flat_map}
 use Rattle.td_base.specs.declared.endpoint.Ep.{Ep}
 use Rattle.td_base.specs.declared.ipv6.Ip6.{Ip6}
-use Rattle.teredo_addr.specs.Teredo.{unspecified}
 use Rattle.teredo_node.specs.declared.fate.Fate.{Fate}
 use Rattle.teredo_node.specs.declared.fate.Fate.TheVariants as fate
 use Rattle.topology.specs.declared.node.Node.{Node}
-use Rattle.topology.specs.declared.node.Node.TheVariants.{Server as server, Nat as nat, Client as client, Relay as relay, Native as native}
+use Rattle.topology.specs.declared.node.Node.TheVariants.{Client as client, Relay as relay}
 use Rattle.history.specs.declared.act.Act.{Act}
 use Rattle.history.specs.declared.act.Act.TheVariants as act
 use Rattle.history.specs.declared.mark.Mark.{Mark}
@@ -17,7 +16,7 @@ use Rattle.legal.specs.Past.{is_restart}
 use Rattle.states.specs.Kept.{is_lower_ip6}
 use Rattle.states.specs.Orders.{in_order}
 use Rattle.loads.specs.declared.load.Load.{Load}
-use Rattle.loads.specs.declared.load.Load.TheVariants.{Packet, ReplyTo}
+use Rattle.loads.specs.declared.load.Load.TheVariants.{Packet}
 use Rattle.loads.specs.declared.saying.Saying.{Saying}
 use Rattle.loads.specs.declared.way.Way.TheVariants.{Goes, Ends}
 use Rattle.loads.specs.Loads.{answer_to, load_at, is_handing_in, releases_all}
@@ -126,9 +125,9 @@ effect_at (Some (relay r)) f = relay_effect f
 effect_at _ f = Nothing
 
 -- by this fate a node begins with its peers anew: a client whose address changed
-abbrev pub is_new_address : Option Node → Fate → Bool
-is_new_address (Some (client c)) f = is_changed_address f
-is_new_address _ f = false
+abbrev pub begins_anew : Option Node → Fate → Bool
+begins_anew (Some (client c)) f = is_changed_address f
+begins_anew _ f = false
 
 -- what a node keeps after something that means this for a peer, if there is one
 abbrev pub after_effect_on : Effect → Option Ip6 → ℕ → Option Ep → Option Load → NodeKept → NodeKept
@@ -136,6 +135,6 @@ after_effect_on x None m from l s = s
 after_effect_on x (Some who) m from l s = after_effect x who m from l s
 
 -- what a node keeps after a record of its own
-abbrev pub kept_after : Option Node → Record → Option Ip6 → Option Ep → Option Load → NodeKept → NodeKept
-kept_after a r peer from l s = if is_restart r.act || is_new_address a r.fate then nothing_kept
+abbrev pub node_after : Option Node → Record → Option Ip6 → Option Ep → Option Load → NodeKept → NodeKept
+node_after a r peer from l s = if is_restart r.act || begins_anew a r.fate then nothing_kept
     else after_effect_on (effect_at a r.fate) peer r.moment.0 from l s

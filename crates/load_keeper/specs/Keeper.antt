@@ -26,7 +26,7 @@ use Rattle.load_keeper.specs.declared.load_keeper.LoadKeeper.{LoadKeeper}
 use Rattle.load_keeper.specs.declared.effect.Effect.{Effect}
 use Rattle.load_keeper.specs.declared.effect.Effect.TheVariants.{Queues, Tests, Holds}
 use Rattle.load_keeper.specs.Kept.{NodeKept, nothing_kept, node_kept, KeepsLoadsOf}
-use Rattle.load_keeper.specs.Hearing.{effect_at, is_new_address, kept_after}
+use Rattle.load_keeper.specs.Hearing.{effect_at, begins_anew, node_after}
 
 -- what the node of a number keeps, if there is one
 abbrev pub kept_at : List NodeLoads → Option ℕ → NodeKept
@@ -82,7 +82,7 @@ pub record IsToldOf (t : TopologyState) (H : List Full) (r : Full) (said : Recor
   pub delivers : IsAskedFor H r
   pub entry : IsEntryOf (effect_at (node_if t r.node) r.fate) r r.entry
   pub about : is_of_peer (node_if t r.node) r.fate ≡ true → IsPeerOf peer from r.entry
-  pub changed : is_some r.entry ≡ false → is_new_address (node_if t r.node) r.fate ≡ false
+  pub changed : is_some r.entry ≡ false → begins_anew (node_if t r.node) r.fate ≡ false
 
 -- These are as many lists as there are nodes, no more than a topology has, and hold nothing.
 pub record AreEmpty (t : TopologyState) (ns : List NodeLoads) : Type 0 where
@@ -91,11 +91,11 @@ pub record AreEmpty (t : TopologyState) (ns : List NodeLoads) : Type 0 where
   pub each : AllByRecursion (λ (s : NodeLoads). node_kept s ≡ nothing_kept) ns
 
 -- what each node keeps after a record: that of the record's node, what it keeps then, and every other what it kept
-abbrev pub kept_after_at : TopologyState → Record → Option Ip6 → Option Ep → Option Load → Option ℕ → ℕ → NodeKept → NodeKept
-kept_after_at t r peer from l None n s = s
-kept_after_at t r peer from l (Some k) n s = if nat_eq k n then kept_after (node_at t n) r peer from l s else s
+abbrev pub node_after_at : TopologyState → Record → Option Ip6 → Option Ep → Option Load → Option ℕ → ℕ → NodeKept → NodeKept
+node_after_at t r peer from l None n s = s
+node_after_at t r peer from l (Some k) n s = if nat_eq k n then node_after (node_at t n) r peer from l s else s
 
 -- These lists are what each node keeps after a record.
 pub record AreKeptAfter (t : TopologyState) (r : Record) (peer : Option Ip6) (from : Option Ep) (l : Option Load) (old new : List NodeLoads) : Type 0 where
   pub count : length new ≡ length old
-  pub each : (n : ℕ) → n < length old → kept_at new (Some n) ≡ kept_after_at t r peer from l r.node n (kept_at old (Some n))
+  pub each : (n : ℕ) → n < length old → kept_at new (Some n) ≡ node_after_at t r peer from l r.node n (kept_at old (Some n))

@@ -2,12 +2,10 @@
 use Rattle.std.specs.Prelude.{◌≡◌, ◌≤◌, ℕ, Bool, true, false, not, if◌then◌else◌, List, [], ◌∷◌, ◌++◌, map, filter, filter_map, find, reverse, Option, Some, None, option_map, unwrap_or}
 use Rattle.td_base.specs.declared.endpoint.Ep.{Ep}
 use Rattle.td_base.specs.declared.ipv6.Ip6.{Ip6}
-use Rattle.td_base.specs.declared.millis.Millis.{Millis}
 use Rattle.td_base.specs.Ip6.{same_ip6}
-use Rattle.peer_list.specs.declared.limits.TheConstants.{LISTED_MS}
 use Rattle.peer_list.specs.declared.held.Held.{Held}
 use Rattle.peer_list.specs.Mentions.{Mention}
-use Rattle.peer_list.specs.Listed.{is_younger, touched}
+use Rattle.peer_list.specs.Listed.{touched}
 use Rattle.peer_list.specs.Peers.{Peer, peer_at}
 use Rattle.loads.specs.declared.load.Load.{Load}
 use Rattle.loads.specs.Loads.{load_at}
@@ -18,17 +16,9 @@ use Rattle.load_keeper.specs.declared.held_load.HeldLoad.{HeldLoad}
 use Rattle.load_keeper.specs.declared.node_loads.NodeLoads.{NodeLoads}
 use Rattle.load_keeper.specs.declared.effect.Effect.{Effect}
 use Rattle.load_keeper.specs.declared.effect.Effect.TheVariants.{Nothing, Touches, Queues, Hears, Tests, Holds, GivesUp}
+use Rattle.load_keeper.specs.Touches.{touches_peer, is_young_touch}
 
 -- WHOM A NODE TOUCHED
-
--- it is the touch of this peer
-abbrev pub touches_peer : Ip6 → Touch → Bool
-touches_peer p t = same_ip6 p t.who
-
--- the moment of a touch is young enough at n that its peer is listed
-abbrev pub is_young_touch : ℕ → Option Touch → Bool
-is_young_touch n None = false
-is_young_touch n (Some t) = is_younger LISTED_MS n t.at.0
 
 -- a peer is listed at n, by these touches
 abbrev pub lists_peer : List Touch → ℕ → Ip6 → Bool
@@ -68,16 +58,16 @@ abbrev pub no_loads : PeerLoads
 no_loads = record { waiting = []; held = [] }
 
 -- what waits for a peer, in order
-abbrev pub waiting_in : List KeptLoad → Ip6 → List (Option Load)
-waiting_in ks p = filter_map (λ (k : KeptLoad). load_that_waits k.from k.load) (filter (is_kept_of p) ks)
+abbrev pub loads_waiting : List KeptLoad → Ip6 → List (Option Load)
+loads_waiting ks p = filter_map (λ (k : KeptLoad). load_that_waits k.from k.load) (filter (is_kept_of p) ks)
 
 -- what is held of a peer, in order
-abbrev pub held_in : List KeptLoad → Ip6 → List HeldLoad
-held_in ks p = filter_map (λ (k : KeptLoad). load_that_is_held k.from k.load) (filter (is_kept_of p) ks)
+abbrev pub loads_held : List KeptLoad → Ip6 → List HeldLoad
+loads_held ks p = filter_map (λ (k : KeptLoad). load_that_is_held k.from k.load) (filter (is_kept_of p) ks)
 
 -- both
 abbrev pub loads_of_peer : List KeptLoad → Ip6 → PeerLoads
-loads_of_peer ks p = record { waiting = waiting_in ks p; held = held_in ks p }
+loads_of_peer ks p = record { waiting = loads_waiting ks p; held = loads_held ks p }
 
 -- ONE NODE
 

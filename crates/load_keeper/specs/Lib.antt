@@ -1,4 +1,5 @@
 pub mod Effects
+pub mod Touches
 pub mod Kept
 pub mod Hearing
 pub mod Keeper

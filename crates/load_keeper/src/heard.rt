@@ -2,7 +2,7 @@
 ghost use Rattle.std.specs.Prelude.{◌≡◌, ◌++◌, ◌∷◌, [], is_some, OnOk, IfOk};
 ghost use Rattle.legal.specs.Past.{is_restart};
 ghost use Rattle.loads.specs.Sayings.{gives_up, is_changed_address};
-ghost use Rattle.load_keeper.specs.Kept.{node_kept, loads_known_or_none, waiting_in, held_in};
+ghost use Rattle.load_keeper.specs.Kept.{node_kept, loads_known_or_none, loads_waiting, loads_held};
 ghost use Rattle.load_keeper.specs.Hearing.{loads_released, peers_dropped, says_to_end, says_of_held, says_of_dropped, says_of_ended, late_source, says_by};
 
 use crate::held_load::HeldLoad;
@@ -20,7 +20,7 @@ use teredo_node::Fate;
 
 /// Appends what is kept, if it waits for a peer.
 fn put_waiting(one: &KeptLoad, who: Ip6, loads: &mut Vec<Option<Load>>) -> Result<(), NoMemory>
-    ensures { OnOk result (loads.new.items ≡ loads.old.items ++ waiting_in (one.now ∷ []) who) }
+    ensures { OnOk result (loads.new.items ≡ loads.old.items ++ loads_waiting (one.now ∷ []) who) }
 {
     if !(who == one.who) {
         return Ok(());
@@ -36,7 +36,7 @@ fn put_waiting(one: &KeptLoad, who: Ip6, loads: &mut Vec<Option<Load>>) -> Resul
 
 /// Appends what is kept, if it is held of a peer.
 fn put_held(one: &KeptLoad, who: Ip6, held: &mut Vec<HeldLoad>) -> Result<(), NoMemory>
-    ensures { OnOk result (held.new.items ≡ held.old.items ++ held_in (one.now ∷ []) who) }
+    ensures { OnOk result (held.new.items ≡ held.old.items ++ loads_held (one.now ∷ []) who) }
 {
     if !(who == one.who) {
         return Ok(());
@@ -54,8 +54,8 @@ fn put_held(one: &KeptLoad, who: Ip6, held: &mut Vec<HeldLoad>) -> Result<(), No
 }
 
 /// What waits for a peer.
-fn waiting_in(alloc: Global, kept: &[KeptLoad], who: Ip6) -> Result<Vec<Option<Load>>, NoMemory>
-    ensures { IfOk result (λ loads. loads.items ≡ waiting_in kept.now who) }
+fn loads_waiting(alloc: Global, kept: &[KeptLoad], who: Ip6) -> Result<Vec<Option<Load>>, NoMemory>
+    ensures { IfOk result (λ loads. loads.items ≡ loads_waiting kept.now who) }
 {
     let mut loads = Vec::new(alloc);
     for one in kept {
@@ -65,8 +65,8 @@ fn waiting_in(alloc: Global, kept: &[KeptLoad], who: Ip6) -> Result<Vec<Option<L
 }
 
 /// What is held of a peer.
-fn held_in(alloc: Global, kept: &[KeptLoad], who: Ip6) -> Result<Vec<HeldLoad>, NoMemory>
-    ensures { IfOk result (λ held. held.items ≡ held_in kept.now who) }
+fn loads_held(alloc: Global, kept: &[KeptLoad], who: Ip6) -> Result<Vec<HeldLoad>, NoMemory>
+    ensures { IfOk result (λ held. held.items ≡ loads_held kept.now who) }
 {
     let mut held = Vec::new(alloc);
     for one in kept {
@@ -88,10 +88,13 @@ impl NodeLoads {
         ensures { IfOk result (λ loads. loads.items ≡ (loads_known_or_none (node_kept self.now) now.0 who).waiting) }
     {
         let alloc = *self.kept.allocator();
+        if self.kept.is_empty() {
+            return Ok(Vec::new(alloc));
+        }
         if !self.lists(now, who) {
             return Ok(Vec::new(alloc));
         }
-        waiting_in(alloc, &self.kept, who)
+        loads_waiting(alloc, &self.kept, who)
     }
 
     /// What is held of a peer, where it is listed.
@@ -99,10 +102,13 @@ impl NodeLoads {
         ensures { IfOk result (λ held. held.items ≡ (loads_known_or_none (node_kept self.now) now.0 who).held) }
     {
         let alloc = *self.kept.allocator();
+        if self.kept.is_empty() {
+            return Ok(Vec::new(alloc));
+        }
         if !self.lists(now, who) {
             return Ok(Vec::new(alloc));
         }
-        held_in(alloc, &self.kept, who)
+        loads_held(alloc, &self.kept, who)
     }
 
     /// What is released to a peer by this fate.

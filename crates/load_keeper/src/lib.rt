@@ -22,7 +22,8 @@
 //! | module | holds | stated in |
 //! |---|---|---|
 //! | `effect` | `Effect`: what a fate means for what is kept of a peer | `specs/Effects.antt` |
-//! | `touch`, `kept_load`, `held_load` | `Touch`, `KeptLoad`, `HeldLoad` | `specs/Kept.antt` |
+//! | `touch` | `Touch`, and the touch of a peer among them | `specs/Touches.antt` |
+//! | `kept_load`, `held_load` | `KeptLoad`, `HeldLoad` | `specs/Kept.antt` |
 //! | `node_loads`, `node_record` | `NodeLoads`: what one node keeps, and after a record | `specs/Kept.antt`, `specs/Hearing.antt` |
 //! | `ways`, `says` | what a fate does with a load, and what is said of it | `specs/Hearing.antt` |
 //! | `in_order`, `heard` | what a record says of all that its node keeps | `specs/Hearing.antt` |
@@ -31,7 +32,8 @@
 //!
 //! # Beside the clauses
 //!
-//! Seen by reading: a record costs what its node keeps, and what its node ever touched since it started.
+//! Seen by reading: a record of a peer costs what its node keeps, and the peers that the node touched since it last touched
+//! that one; where the node keeps nothing these are looked through once. Memory is taken where something is released, ends or is dropped, and where a list grows.
 #![tactic(auto)]
 
 mod effect;

@@ -51,16 +51,30 @@ fn load_at(loads: &[Option<Load>], i: usize) -> Option<Load>
     if i < loads.len() { loads[i] } else { None }
 }
 
-/// What the entries of a record's marks carry, put behind the others.
+/// What the send of a number carries: what is released comes first, then this, and then nothing.
+fn load_sent(released: &[Option<Load>], last: Option<Load>, i: usize) -> Option<Load>
+    ensures { result ≡ load_at (released.now ++ last ∷ []) i }
+{
+    if i < released.len() {
+        return released[i];
+    }
+    if i == released.len() {
+        return last;
+    }
+    None
+}
+
+/// What the entries of a record's marks carry, put behind the others: what was released, and this.
 fn put_entries(
     marks: &[Mark],
-    loads: &[Option<Load>],
+    released: &[Option<Load>],
+    last: Option<Load>,
     wire: &mut Vec<Option<Load>>,
 ) -> Result<(), NoMemory>
-    ensures { OnOk result (wire.new.items ≡ wire.old.items ++ entries_by_marks marks.now loads.now) }
+    ensures { OnOk result (wire.new.items ≡ wire.old.items ++ entries_by_marks marks.now (released.now ++ last ∷ [])) }
 {
     for (i, mark) in marks.iter().enumerate() {
-        put_entry(mark, load_at(loads, i), wire)?;
+        put_entry(mark, load_sent(released, last, i), wire)?;
     }
     Ok(())
 }
@@ -123,15 +137,14 @@ impl LoadKeeper {
         &mut self,
         record: &Record,
         load: Option<Load>,
-        released: Vec<Option<Load>>,
+        released: &[Option<Load>],
     ) -> Result<(), NoMemory>
-        ensures wire { OnOk result (self.new.wire.items ≡ self.old.wire.items ++ entries_by_marks record.now.marks (released.items ++ load_that_goes_on record.now.fate load ∷ [])) }
+        ensures wire { OnOk result (self.new.wire.items ≡ self.old.wire.items ++ entries_by_marks record.now.marks (released.now ++ load_that_goes_on record.now.fate load ∷ [])) }
         ensures packets { self.new.packets ≡ self.old.packets }
         ensures nodes { self.new.nodes ≡ self.old.nodes }
     {
-        let mut made = released;
-        made.push(load_that_goes_on(record.fate, load))?;
-        put_entries(record.marks.as_slice(), &made, &mut self.wire)
+        let last = load_that_goes_on(record.fate, load);
+        put_entries(record.marks.as_slice(), released, last, &mut self.wire)
     }
 
     /// Counts a packet that a host handed in.
@@ -195,7 +208,7 @@ impl LoadKeeper {
         let nobody = NodeLoads::new(*said.allocator());
         let node = self.node(record.node, &nobody);
         let released = node.say_all(record, load, who, from, said)?;
-        self.carry(record, load, released)?;
+        self.carry(record, load, &released)?;
         self.note(t, record, peer, from, load)?;
         self.count(record.act)?;
         Ok(())

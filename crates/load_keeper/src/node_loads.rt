@@ -1,14 +1,11 @@
 //! What a node keeps of its peers, as far as loads go.
-ghost use Rattle.std.specs.Prelude.{◌≡◌, ◌++◌, ◌∷◌, [], filter, filter_map, find, not, if◌then◌else◌, OnOk, option_copied};
-ghost use Rattle.peer_list.specs.Listed.{is_younger};
-ghost use Rattle.load_keeper.specs.Kept.{is_kept_of, kept_of_others, lists_peer, is_young_touch, touches_peer, with_touch, outlasts_giving_up};
-ghost use Rattle.load_keeper.specs.Kept.{node_kept, nothing_kept, after_touch, after_keeping, after_effect};
+ghost use Rattle.std.specs.Prelude.{◌≡◌, true};
+ghost use Rattle.load_keeper.specs.Touches.{are_apart};
 
 use crate::effect::Effect;
 use crate::kept_load::KeptLoad;
-use crate::touch::Touch;
+use crate::touch::{Touch, is_young, touch_place};
 use loads::Load;
-use peer_list::LISTED_MS;
 use std::alloc::Global;
 use td_base::{Ep, Ip6, Millis, NoMemory};
 
@@ -19,32 +16,15 @@ pub struct NodeLoads {
     pub touches: Vec<Touch>,
     /// In the order in which it came. What is kept of a peer that isn't listed counts no longer.
     pub kept: Vec<KeptLoad>,
-}
-
-/// Whether a touch is young enough that its peer is listed.
-fn is_young(now: Millis, touch: Option<Touch>) -> bool
-    ensures { result ≡ is_young_touch now.0 touch }
-{
-    match touch {
-        None => false,
-        Some(touch) => now.0.saturating_sub(touch.at.0) < LISTED_MS,
-    }
-}
-
-/// The touch of a peer.
-#[tactic(auto, using(crate::proofs::Loops::found_here, crate::proofs::Loops::found_not_yet))]
-fn find_touch(touches: &[Touch], who: Ip6) -> Option<Touch>
-    ensures { result ≡ find (touches_peer who) touches.now }
-{
-    for touch in touches {
-        if who == touch.who {
-            return Some(*touch);
-        }
-    }
-    None
+    ghost apart: { are_apart touches.items ≡ true },
 }
 
 impl NodeLoads {
+    ghost use Rattle.std.specs.Prelude.{filter, find, not, if◌then◌else◌, OnOk};
+    ghost use Rattle.load_keeper.specs.Touches.{touches_peer};
+    ghost use Rattle.load_keeper.specs.Kept.{kept_of_others, lists_peer, with_touch, outlasts_giving_up};
+    ghost use Rattle.load_keeper.specs.Kept.{node_kept, nothing_kept, after_touch, after_keeping, after_effect};
+
     /// A node that keeps nothing.
     pub fn new(alloc: Global) -> NodeLoads
         ensures { node_kept result ≡ nothing_kept }
@@ -55,11 +35,21 @@ impl NodeLoads {
         }
     }
 
+    /// The touch of a peer, if there is one.
+    fn find_touch(&self, who: Ip6) -> Option<Touch>
+        ensures { result ≡ find (touches_peer who) self.now.touches.items }
+    {
+        match touch_place(&self.touches, who) {
+            None => None,
+            Some(place) => Some(self.touches[place]),
+        }
+    }
+
     /// Whether a peer is listed.
     pub fn lists(&self, now: Millis, who: Ip6) -> bool
         ensures { result ≡ lists_peer self.now.touches.items now.0 who }
     {
-        is_young(now, find_touch(&self.touches, who))
+        is_young(now, self.find_touch(who))
     }
 
     /// Keeps nothing of a peer any more.
@@ -87,10 +77,24 @@ impl NodeLoads {
         ensures kept { self.new.kept.items ≡ (if lists_peer self.old.touches.items now.0 who then self.old.kept.items else kept_of_others who self.old.kept.items) }
         ensures touches { self.new.touches.items ≡ self.old.touches.items }
     {
+        if self.kept.is_empty() {
+            return;
+        }
         if self.lists(now, who) {
             return;
         }
         self.drop_kept(who);
+    }
+
+    /// Forgets when a peer was touched. Each touch is of another peer, so that there is one at most.
+    fn drop_touch(&mut self, who: Ip6)
+        ensures touches { self.new.touches.items ≡ filter (λ t. not (touches_peer who t)) self.old.touches.items }
+        ensures kept { self.new.kept.items ≡ self.old.kept.items }
+    {
+        let Some(place) = touch_place(&self.touches, who) else {
+            return;
+        };
+        self.touches.remove(place);
     }
 
     /// Remembers that a peer was touched.
@@ -98,7 +102,7 @@ impl NodeLoads {
         ensures touches { OnOk result (self.new.touches.items ≡ with_touch who now.0 self.old.touches.items) }
         ensures kept { self.new.kept.items ≡ self.old.kept.items }
     {
-        self.touches.retain(|touch| !(who == touch.who));
+        self.drop_touch(who);
         self.touches.push(Touch { who, at: now })?;
         Ok(())
     }

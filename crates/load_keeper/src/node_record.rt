@@ -1,6 +1,6 @@
 //! What a node keeps after a record of its own.
 ghost use Rattle.std.specs.Prelude.{◌≡◌, OnOk};
-ghost use Rattle.load_keeper.specs.Hearing.{effect_at, is_new_address, after_effect_on, kept_after};
+ghost use Rattle.load_keeper.specs.Hearing.{effect_at, begins_anew, after_effect_on, node_after};
 ghost use Rattle.load_keeper.specs.Kept.{node_kept, nothing_kept};
 
 use crate::effect::{Effect, client_effect, relay_effect};
@@ -25,8 +25,8 @@ fn effect_at(node: Option<Node>, fate: Fate) -> Effect
 }
 
 /// Whether a node begins with its peers anew.
-fn is_new_address(node: Option<Node>, fate: Fate) -> bool
-    ensures { result ≡ is_new_address node fate }
+fn begins_anew(node: Option<Node>, fate: Fate) -> bool
+    ensures { result ≡ begins_anew node fate }
 {
     match node {
         Some(Node::Client(_)) => is_changed_address(fate),
@@ -69,9 +69,9 @@ impl NodeLoads {
         from: Option<Ep>,
         load: Option<Load>,
     ) -> Result<(), NoMemory>
-        ensures { OnOk result (node_kept self.new ≡ kept_after node record.now peer from load (node_kept self.old)) }
+        ensures { OnOk result (node_kept self.new ≡ node_after node record.now peer from load (node_kept self.old)) }
     {
-        if is_restart(record.act) || is_new_address(node, record.fate) {
+        if is_restart(record.act) || begins_anew(node, record.fate) {
             self.clear();
             return Ok(());
         }

@@ -1,4 +1,4 @@
 mod Words
-mod LawProofs
-mod NamedEntries
-mod Renamed
+pub mod LawProofs
+pub mod NamedEntries
+pub mod Renamed

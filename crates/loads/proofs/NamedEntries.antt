@@ -5,7 +5,7 @@ use Rattle.loads.proofs.Renamed.{bearing_with, renamed}
 
 module _ (g : List ℕ → List ℕ) where
   -- g gives back the packet for which the number of its record stands
-  abbrev IsNameOf : ℕ → Option (List ℕ) → Type 0
+  abbrev pub IsNameOf : ℕ → Option (List ℕ) → Type 0
   IsNameOf i o = IfSome o (λ (x : List ℕ). g (i ∷ []) ≡ x)
 
   numbered_packet : ℕ → Option (List ℕ) → Option (List ℕ)

@@ -35,7 +35,7 @@
 //! records' packets of which the rules of clients and relays say so: the same definitions, over a history in which the
 //! number of a record stands in place of its packet. So a load is never told by bytes, and where each packet is in the
 //! end follows. All of it stands in `Numbered.antt`, `Loads.antt`, `Sayings.antt`, `Ends.antt` and `FollowLines.antt`,
-//! and `worked_lines` computes the lines on worked scenarios. That what carries a packet holds its bytes is not said.
+//! and `worked_lines` computes the lines on worked scenarios. That what carries a packet has its bytes, `theory_loads` says.
 #![tactic(auto)]
 
 mod end;

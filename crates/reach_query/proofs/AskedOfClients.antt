@@ -1,5 +1,5 @@
 -- What the table of words asks of two clients, as a world answers it.
-use Rattle.reach_query.proofs.Words.{AreAlikeOfTwo, Bool, ClientHere, ClientNode, Full, Ip6, Lab, List, TwoClients, address_at, between_clients_row, embedded, false, has_cone, has_room, is_barred, is_fresh, is_led_to, is_on, is_settled, known, length, not, now, outermost, peers_of, refl, same_ip6, speaks_to, true, two_clients, ℕ, ◌&&◌, ◌==◌, ◌||◌, ◌≡◌}
+use Rattle.reach_query.proofs.Words.{AreAlikeOfTwo, Bool, ClientHere, ClientNode, Full, Ip6, Lab, List, TwoClients, address_at, asks_at, between_clients_row, bubbles_stray, embedded, false, has_cone, has_room, is_barred, is_fresh, is_led_to, is_on, is_settled, known, length, not, now, outermost, peers_of, refl, same_ip6, speaks_to, true, two_clients, ℕ, ◌&&◌, ◌==◌, ◌||◌, ◌≡◌}
 use Rattle.theory_reaching.specs.declared.word.Reach.TheVariants as word
 
 -- at a moment, where the two have these addresses
@@ -9,6 +9,7 @@ asked_at lab H a b m own other = record {
   there = is_on lab H b.number b.row;
   same_address = same_ip6 own other;
   speaks = speaks_to lab H a.row own (embedded other);
+  bubbles_astray = bubbles_stray lab H a.row own (embedded other) (asks_at lab b.row);
   settled = is_settled lab H a.number a.row && is_settled lab H b.number b.row;
   one_nat = outermost lab a.row == outermost lab b.row;
   heard = has_room (peers_of H b.number) m own;

@@ -1,5 +1,5 @@
 -- A client's NAT is a NAT.
-use Rattle.reach_query.proofs.Words.{Bool, ClientNode, IsTopology, Node, None, Option, Some, TopologyState, as_nat, client, each_node, false≢true, is_nat, is_some, nat, native, node_at, option_and_then, refl, relay, server, true, ℕ, ◌≡◌}
+use Rattle.reach_query.proofs.Words.{ClientNode, IsTopology, Node, None, Option, Some, TopologyState, as_nat, client, each_node, false≢true, is_nat, is_some, nat, native, node_at, option_and_then, refl, relay, server, true, ℕ, ◌≡◌}
 
 with_row : (o : Option Node) → is_some (option_and_then as_nat o) ≡ true → is_nat o ≡ true
 with_row None e = absurd (false≢true e)

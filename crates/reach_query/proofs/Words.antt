@@ -66,8 +66,8 @@ pub use Rattle.theory_reaching.specs.FromNative.{from_native_row}
 pub use Rattle.theory_reaching.specs.Reach.{reach_between}
 unfoldable pub use Rattle.theory_reaching.specs.Reach.{reach_of}
 pub use Rattle.theory_reaching.specs.ReachLines.{Said, lines_of_said, said_from, said_line, said_of_all, said_of_each, said_total}
-pub use Rattle.theory_reaching.specs.Speaks.{is_from, way_to}
-unfoldable pub use Rattle.theory_reaching.specs.Speaks.{speaks_to}
+pub use Rattle.theory_reaching.specs.Speaks.{is_elsewhere, is_from, way_to}
+unfoldable pub use Rattle.theory_reaching.specs.Speaks.{bubbles_stray, speaks_to, strays_to}
 unfoldable pub use Rattle.theory_reaching.specs.ThroughRelay.{relayed}
 pub use Rattle.theory_reaching.specs.ToNative.{to_native_row}
 pub use Rattle.theory_reaching.specs.Words.{reach_word}

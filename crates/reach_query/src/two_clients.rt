@@ -10,9 +10,9 @@ ghost use Rattle.world.specs.World.{StandsFor, lab_in};
 ghost use Rattle.reach_query.specs.Hosts.{IsClientHere};
 ghost use Rattle.reach_query.specs.Asked.{AreAlikeOfTwo};
 
-use crate::hosts::{ClientHere, is_let_in};
+use crate::hosts::{ClientHere, is_let_in, server_endpoint};
 use crate::known;
-use crate::speaking::speaks_to;
+use crate::speaking::{bubbles_stray, speaks_to};
 use teredo_addr::{embedded, has_cone};
 use theory_reaching::{Reach, TwoClients};
 use world::World;
@@ -70,6 +70,8 @@ fn two_clients(world: &World<'_>, a: ClientHere<'_>, b: ClientHere<'_>) -> TwoCl
     let there = b.is_on();
     let same_address = own == other;
     let speaks = speaks_to(world, a, own, embedded(other));
+    let asked = server_endpoint(world.topology(), b.row.server);
+    let bubbles_astray = bubbles_stray(world, a, own, embedded(other), asked);
     let settled = are_settled(world, a, b);
     let one_nat = have_one_nat(world, a, b);
     let there_known = a.client.peer(now, other);
@@ -90,6 +92,7 @@ fn two_clients(world: &World<'_>, a: ClientHere<'_>, b: ClientHere<'_>) -> TwoCl
         there,
         same_address,
         speaks,
+        bubbles_astray,
         settled,
         one_nat,
         heard,

@@ -7,6 +7,7 @@ use Rattle.std.specs.List.{concat}
 use Rattle.std.specs.Io.KnownBytes.{Appends, Keeps}
 use Rattle.td_outside.specs.Moves.{GainsAll, Gains}
 use Rattle.td_outside.specs.MoveLaws.{Stays-refl, GainsAll-nil, GainsAll-append}
+use Rattle.td_outside.specs.Causes.{Rose}
 use Rattle.td_outside.specs.Sink.{SinkState}
 use Rattle.sink_lines.specs.Lines.{HandsFrom, HandsLine, HandsLines, GivesPieces, WritesLines, BeginsLines, Writing}
 
@@ -172,6 +173,32 @@ not_wrote a b lines x y w = record { ok = tt; err = w.err; cause = record { late
 -- no line was to be written
 pub nothing_wrote : {E : Type 0} (a : SinkState) → Writing {E = E} a a [] (Ok tt)
 nothing_wrote a = record { ok = none_written a; err = tt; cause = record { later = omega arith; failed = tt; kept = refl } }
+
+module _ {E F : Type 0} (a b c : SinkState) (xs ys : List (List ℕ)) where
+  -- lines after others that were written
+  pub both_written : (r : Result (Unit {0}) E) → Writing {E = F} a b xs (Ok tt) → Writing {E = E} b c ys r → Writing {E = E} a c (xs ++ ys) r
+  both_written (Ok _) p q = record {
+    ok = WritesLines-then a b c xs ys p.ok q.ok;
+    err = tt;
+    cause = record { later = omega (arith, p.cause.later, q.cause.later); failed = tt; kept = q.cause.kept ∙ p.cause.kept };
+  }
+  both_written (Err e) p q = record {
+    ok = tt;
+    err = BeginsLines-then a b c xs ys p.ok q.err;
+    cause = record {
+      later = omega (arith, p.cause.later, q.cause.later);
+      failed = subst (λ (n : ℕ). Rose n c.faults) p.cause.kept q.cause.failed;
+      kept = tt;
+    };
+  }
+
+-- the sink failed before the other lines
+pub ended_early : {E F : Type 0} (a b : SinkState) (xs ys : List (List ℕ)) (e : E) (f : F) → Writing {E = E} a b xs (Err e) → Writing {E = F} a b (xs ++ ys) (Err f)
+ended_early a b xs ys e f w = record {
+  ok = tt;
+  err = BeginsLines-more a b xs ys w.err;
+  cause = record { later = w.cause.later; failed = w.cause.failed; kept = tt };
+}
 
 -- the line is another one that is the same
 pub Writing-line : {E : Type 0} (a b : SinkState) (x y : List ℕ) (r : Result (Unit {0}) E) → x ≡ y → Writing {E = E} a b (x ∷ []) r → Writing {E = E} a b (y ∷ []) r

@@ -61,27 +61,47 @@ module _ (t : TopologyState) (ps : List Passing) (place : ℕ) where
 
 -- ---- the lines on a place of it, and on the next ones
 
+-- This was found there: a datagram that was let out at the moment of the walk.
+pub record FoundAt (m : ℕ) (ps : List Passing) (place : ℕ) (x : LetOut) (now : Millis) : Type 0 where
+  pub here : slice_get ps place ≡ Some (passing_of x)
+  pub same : now.0 ≡ m
+  pub at : x.datagram.moment ≡ record { 0 = m }
+
+module _ {t u : TopologyState} {chain other : List Behind} {m : ℕ} {now : Millis} (h : NatPasts) (k : ℕ) (dst from : Ep) (place : ℕ) (o : Option LetOut) (topology : u ≡ t) (behind : other ≡ chain) (same : now.0 ≡ m)
+    (told : option_map passing_of o ≡ slice_get (walk u h now.0 dst (way_out other k) from) place) where
+  -- what an equal table tells of a place is what the walk has there
+  pub told_there : option_map passing_of o ≡ slice_get (walk t h m dst (way_out chain k) from) place
+  told_there = told ∙ ap (λ (v : TopologyState). slice_get (walk v h now.0 dst (way_out other k) from) place) topology
+      ∙ ap (λ (ch : List Behind). slice_get (walk t h now.0 dst (way_out ch k) from) place) behind
+      ∙ ap (λ (n : ℕ). slice_get (walk t h n dst (way_out chain k) from) place) same
+
+  -- and was found there
+  pub is_found : {x : LetOut} → o ≡ Some x → FoundAt m (walk t h m dst (way_out chain k) from) place x now
+  is_found {x} is = record { here = there; same = same; at = walk_moment t h m dst (way_out chain k) from place (passing_of x) there } where
+    there : slice_get (walk t h m dst (way_out chain k) from) place ≡ Some (passing_of x)
+    there = sym told_there ∙ ap (option_map passing_of) is
+
 module _ (t : TopologyState) (i : Option ℕ) (m : ℕ) (ps : List Passing) (place : ℕ) (x : LetOut) (now : Millis) where
   -- the lines on what was found there
   abbrev pub OnPlace : {E : Type 0} → SinkState → SinkState → Result (Unit {0}) E → Type 0
   OnPlace {E} a b r = WritesFacts {E = E} t i now.0 a b (map (at_node x.nat) (passed_facts (nat_set_up t x.nat) (record x.datagram { moment = now }))) r
 
-  module _ (here : slice_get ps place ≡ Some (passing_of x)) (same : now.0 ≡ m) (at : x.datagram.moment ≡ record { 0 = m }) where
+  module _ (found : FoundAt m ps place x now) where
     on_place : {E : Type 0} (a b : SinkState) (r : Result (Unit {0}) E) → OnPlace {E = E} a b r → WritesFacts {E = E} t i m a b (passing_facts t (passing_of x)) r
     on_place {E} a b r w =
-        let e : record x.datagram { moment = now } ≡ x.datagram = at_moment x.datagram now (at ∙ sym (ap (λ (k : ℕ). record { 0 = k }) same)) in
-        subst (λ (k : ℕ). WritesFacts {E = E} t i k a b (passing_facts t (passing_of x)) r) same
+        let e : record x.datagram { moment = now } ≡ x.datagram = at_moment x.datagram now (found.at ∙ sym (ap (λ (k : ℕ). record { 0 = k }) found.same)) in
+        subst (λ (k : ℕ). WritesFacts {E = E} t i k a b (passing_facts t (passing_of x)) r) found.same
         (subst (λ (y : Outward). WritesFacts {E = E} t i now.0 a b (map (at_node x.nat) (passed_facts (nat_set_up t x.nat) y)) r) e w)
 
     -- the sink failed there
     pub place_unwritten : {E : Type 0} (a b : SinkState) (e f : E) → OnPlace {E = E} a b (Err e) → WritesFacts {E = E} t i m a b (flat_map (passing_facts t) (drop place ps)) (Err f)
     place_unwritten {E} a b e f w =
-        subst (λ (fs : List NodeFact). WritesFacts {E = E} t i m a b fs (Err f)) (sym (one_further t ps place (passing_of x) here))
+        subst (λ (fs : List NodeFact). WritesFacts {E = E} t i m a b fs (Err f)) (sym (one_further t ps place (passing_of x) found.here))
         (facts_broken_off t i m a b b (passing_facts t (passing_of x)) (flat_map (passing_facts t) (drop (place + 1) ps)) e f (on_place a b (Err e) w))
 
     -- and then those on the next ones
     pub places_written : {E : Type 0} (a b c : SinkState) (r : Result (Unit {0}) E) → OnPlace {E = E} a b (Ok tt)
         → WritesFacts {E = E} t i m b c (flat_map (passing_facts t) (drop (place + 1) ps)) r → WritesFacts {E = E} t i m a c (flat_map (passing_facts t) (drop place ps)) r
     places_written {E} a b c r w others =
-        subst (λ (fs : List NodeFact). WritesFacts {E = E} t i m a c fs r) (sym (one_further t ps place (passing_of x) here))
+        subst (λ (fs : List NodeFact). WritesFacts {E = E} t i m a c fs r) (sym (one_further t ps place (passing_of x) found.here))
         (facts_both t i m a b c (passing_facts t (passing_of x)) (flat_map (passing_facts t) (drop (place + 1) ps)) r (on_place a b (Ok tt) w) others)

@@ -10,10 +10,9 @@ pub use Rattle.std.specs.List.{flat_map}
 pub use Rattle.std.specs.Prelude.{IfSome, codes, decimal, is_some, map, option_and_then, option_map, option_to_list, reverse, slice_get, ◌||◌}
 pub use Rattle.td_base.specs.declared.endpoint.Ep.{Ep}
 pub use Rattle.td_base.specs.declared.millis.Millis.{Millis}
-pub use Rattle.td_outside.specs.Causes.{Rose}
 pub use Rattle.td_outside.specs.Sink.{SinkState}
 pub use Rattle.td_outside.specs.declared.fails.Failed.{Failed}
-pub use Rattle.sink_lines.proofs.Written.{BeginsLines-more, BeginsLines-then, WritesLines-then, Writing-line, nothing_wrote, wrote}
+pub use Rattle.sink_lines.proofs.Written.{Writing-line, both_written, ended_early, nothing_wrote, wrote}
 pub use Rattle.sink_lines.specs.Lines.{Writing}
 pub use Rattle.teredo_node.specs.Journal.{is_changed}
 unfoldable pub use Rattle.peer_list.specs.Listed.{listed, touched}

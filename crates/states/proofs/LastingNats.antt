@@ -23,7 +23,7 @@ use Rattle.nat_kinds.proofs.PortLemmas.{key_symm}
 use Rattle.states.specs.Facts.{Fact, Whom, holds_port, lets}
 use Rattle.states.specs.Kept.{asks_alike, has_lower_destination, has_lower_port, latest_asked, lets_fact, lets_facts, port_fact, port_facts, whom_asked}
 use Rattle.states.specs.Orders.{in_order}
-use Rattle.states.specs.Lasting.{NatFactsLast, lasts}
+use Rattle.states.specs.Lasting.{NatFactsLast, fact_lasts}
 use Rattle.states.proofs.Sorted.{all_ordered, by_number, ordered_left}
 
 -- MOMENTS
@@ -82,18 +82,18 @@ module _ (s : NatSettings) (n : ℕ) (lives : 1 ≤ s.idle) where
   abbrev let_by : NatKind → ℕ → Outward → Option Fact
   let_by kind port e = option_map (λ (w : Whom). lets port w (e.moment.0 + s.idle)) (whom_asked kind e.dst)
 
-  told_left : (kind : NatKind) (port : ℕ) (xs : List Outward) → filter (lasts n) (filter_map (let_by kind port) xs) ≡ filter_map (let_by kind port) (filter Y xs)
+  told_left : (kind : NatKind) (port : ℕ) (xs : List Outward) → filter (fact_lasts n) (filter_map (let_by kind port) xs) ≡ filter_map (let_by kind port) (filter Y xs)
   told_left kind port [] = refl
   told_left kind port (e ∷ xs) = by (whom_asked kind e.dst) refl (Y e) refl (told_left kind port xs) where
-    by : (w : Option Whom) → whom_asked kind e.dst ≡ w → (b : Bool) → Y e ≡ b → filter (lasts n) (filter_map (let_by kind port) xs) ≡ filter_map (let_by kind port) (filter Y xs)
-        → filter (lasts n) (cons_option (option_map (λ (w : Whom). lets port w (e.moment.0 + s.idle)) w) (filter_map (let_by kind port) xs))
+    by : (w : Option Whom) → whom_asked kind e.dst ≡ w → (b : Bool) → Y e ≡ b → filter (fact_lasts n) (filter_map (let_by kind port) xs) ≡ filter_map (let_by kind port) (filter Y xs)
+        → filter (fact_lasts n) (cons_option (option_map (λ (w : Whom). lets port w (e.moment.0 + s.idle)) w) (filter_map (let_by kind port) xs))
         ≡ filter_map (let_by kind port) (cond b (e ∷ filter Y xs) (filter Y xs))
     by None is true y rest = rest ∙ sym (ap (λ (o : Option Whom). cons_option (option_map (λ (w : Whom). lets port w (e.moment.0 + s.idle)) o) (filter_map (let_by kind port) (filter Y xs))) is)
     by None is false y rest = rest
-    by (Some x) is true y rest = ap (λ (t : Bool). cond t (lets port x (e.moment.0 + s.idle) ∷ filter (lasts n) (filter_map (let_by kind port) xs)) (filter (lasts n) (filter_map (let_by kind port) xs))) (end_is e.moment.0 ∙ y)
+    by (Some x) is true y rest = ap (λ (t : Bool). cond t (lets port x (e.moment.0 + s.idle) ∷ filter (fact_lasts n) (filter_map (let_by kind port) xs)) (filter (fact_lasts n) (filter_map (let_by kind port) xs))) (end_is e.moment.0 ∙ y)
         ∙ ap (λ (fs : List Fact). lets port x (e.moment.0 + s.idle) ∷ fs) rest
         ∙ sym (ap (λ (o : Option Whom). cons_option (option_map (λ (w : Whom). lets port w (e.moment.0 + s.idle)) o) (filter_map (let_by kind port) (filter Y xs))) is)
-    by (Some x) is false y rest = ap (λ (t : Bool). cond t (lets port x (e.moment.0 + s.idle) ∷ filter (lasts n) (filter_map (let_by kind port) xs)) (filter (lasts n) (filter_map (let_by kind port) xs))) (end_is e.moment.0 ∙ y)
+    by (Some x) is false y rest = ap (λ (t : Bool). cond t (lets port x (e.moment.0 + s.idle) ∷ filter (fact_lasts n) (filter_map (let_by kind port) xs)) (filter (fact_lasts n) (filter_map (let_by kind port) xs))) (end_is e.moment.0 ∙ y)
         ∙ rest
 
   -- of those that asked the same, the latest
@@ -117,7 +117,7 @@ module _ (s : NatSettings) (n : ℕ) (lives : 1 ≤ s.idle) where
   abbrev lets_by : NatKind → List Outward → Outward → List Fact
   lets_by kind outs m = filter_map (let_by kind m.port) (in_order has_lower_destination (latest_asked kind (filter (inside_of_it m) outs)))
 
-  lets_left : (kind : NatKind) (outs : List Outward) (m : Outward) → Fall outs → filter (lasts n) (lets_by kind outs m) ≡ lets_by kind (filter Y outs) m
+  lets_left : (kind : NatKind) (outs : List Outward) (m : Outward) → Fall outs → filter (fact_lasts n) (lets_by kind outs m) ≡ lets_by kind (filter Y outs) m
   lets_left kind outs m fall =
       told_left kind m.port (in_order has_lower_destination (latest_asked kind (filter (inside_of_it m) outs)))
       ∙ ap (filter_map (let_by kind m.port)) (sym (ordered_left has_lower_destination (by_number (λ (o : Outward). endpoint_number o.dst)) Y (latest_asked kind (filter (inside_of_it m) outs)))
@@ -151,21 +151,21 @@ module _ (s : NatSettings) (n : ℕ) (lives : 1 ≤ s.idle) where
   abbrev facts_on : List Outward → Outward → List Fact
   facts_on outs m = port_fact s m ∷ lets_facts s outs m
 
-  one_left : (outs : List Outward) (m : Outward) → Fall outs → IsLast s.kind outs m → (b : Bool) → Y m ≡ b → filter (lasts n) (facts_on outs m) ≡ cond b (facts_on (filter Y outs) m) []
-  one_left outs m fall last true y = ap (λ (t : Bool). cond t (port_fact s m ∷ filter (lasts n) (lets_facts s outs m)) (filter (lasts n) (lets_facts s outs m))) (end_is m.moment.0 ∙ y)
+  one_left : (outs : List Outward) (m : Outward) → Fall outs → IsLast s.kind outs m → (b : Bool) → Y m ≡ b → filter (fact_lasts n) (facts_on outs m) ≡ cond b (facts_on (filter Y outs) m) []
+  one_left outs m fall last true y = ap (λ (t : Bool). cond t (port_fact s m ∷ filter (fact_lasts n) (lets_facts s outs m)) (filter (fact_lasts n) (lets_facts s outs m))) (end_is m.moment.0 ∙ y)
       ∙ ap (λ (fs : List Fact). port_fact s m ∷ fs) (lets_left s.kind outs m fall)
-  one_left outs m fall last false y = ap (λ (t : Bool). cond t (port_fact s m ∷ filter (lasts n) (lets_facts s outs m)) (filter (lasts n) (lets_facts s outs m))) (end_is m.moment.0 ∙ y)
+  one_left outs m fall last false y = ap (λ (t : Bool). cond t (port_fact s m ∷ filter (fact_lasts n) (lets_facts s outs m)) (filter (fact_lasts n) (lets_facts s outs m))) (end_is m.moment.0 ∙ y)
       ∙ lets_left s.kind outs m fall ∙ lets_none s.kind outs m y last
 
   ports_left : (outs : List Outward) → Fall outs → (ms : List Outward) → AllByRecursion (IsLast s.kind outs) ms
-      → flat_map (facts_on (filter Y outs)) (filter Y ms) ≡ filter (lasts n) (flat_map (facts_on outs) ms)
+      → flat_map (facts_on (filter Y outs)) (filter Y ms) ≡ filter (fact_lasts n) (flat_map (facts_on outs) ms)
   ports_left outs fall [] last = refl
   ports_left outs fall (m ∷ ms) last = by (Y m) refl (ports_left outs fall ms last.1) where
-    by : (b : Bool) → Y m ≡ b → flat_map (facts_on (filter Y outs)) (filter Y ms) ≡ filter (lasts n) (flat_map (facts_on outs) ms)
-        → flat_map (facts_on (filter Y outs)) (cond b (m ∷ filter Y ms) (filter Y ms)) ≡ filter (lasts n) (facts_on outs m ++ flat_map (facts_on outs) ms)
+    by : (b : Bool) → Y m ≡ b → flat_map (facts_on (filter Y outs)) (filter Y ms) ≡ filter (fact_lasts n) (flat_map (facts_on outs) ms)
+        → flat_map (facts_on (filter Y outs)) (cond b (m ∷ filter Y ms) (filter Y ms)) ≡ filter (fact_lasts n) (facts_on outs m ++ flat_map (facts_on outs) ms)
     by true y rest = ap (λ (fs : List Fact). facts_on (filter Y outs) m ++ fs) rest
-        ∙ sym (filter-append (lasts n) (facts_on outs m) (flat_map (facts_on outs) ms) ∙ ap (λ (fs : List Fact). fs ++ filter (lasts n) (flat_map (facts_on outs) ms)) (one_left outs m fall last.0 true y))
-    by false y rest = rest ∙ sym (filter-append (lasts n) (facts_on outs m) (flat_map (facts_on outs) ms) ∙ ap (λ (fs : List Fact). fs ++ filter (lasts n) (flat_map (facts_on outs) ms)) (one_left outs m fall last.0 false y))
+        ∙ sym (filter-append (fact_lasts n) (facts_on outs m) (flat_map (facts_on outs) ms) ∙ ap (λ (fs : List Fact). fs ++ filter (fact_lasts n) (flat_map (facts_on outs) ms)) (one_left outs m fall last.0 true y))
+    by false y rest = rest ∙ sym (filter-append (fact_lasts n) (facts_on outs m) (flat_map (facts_on outs) ms) ∙ ap (λ (fs : List Fact). fs ++ filter (fact_lasts n) (flat_map (facts_on outs) ms)) (one_left outs m fall last.0 false y))
 
 pub nat_facts_last : NatFactsLast
 nat_facts_last s h m n lives past le =

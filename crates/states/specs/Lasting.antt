@@ -14,15 +14,15 @@ use Rattle.states.specs.Kept.{port_facts, peer_fact_of, listed_in_order}
 
 -- *lasts*, of a NAT's fact: a port, and whom the NAT lets in there, last at each moment before their end.
 -- the fact lasts at n
-abbrev pub lasts : ℕ → Fact → Bool
-lasts n (holds_port port inside to end) = nat_lt n end
-lasts n (lets port whom end) = nat_lt n end
-lasts n _ = true
+abbrev pub fact_lasts : ℕ → Fact → Bool
+fact_lasts n (holds_port port inside to end) = nat_lt n end
+fact_lasts n (lets port whom end) = nat_lt n end
+fact_lasts n _ = true
 
 -- what a NAT keeps at a moment is what it kept at an earlier one, as far as that lasts, in the same order
 abbrev pub NatFactsLast : Type 0
 NatFactsLast = (s : NatSettings) (h : List NatEntry) (m n : ℕ) → 1 ≤ s.idle → IsPast s h m → m ≤ n
-    → port_facts s (counting s.idle n h) ≡ filter (lasts n) (port_facts s (counting s.idle m h))
+    → port_facts s (counting s.idle n h) ≡ filter (fact_lasts n) (port_facts s (counting s.idle m h))
 
 -- PEERS
 

@@ -34,8 +34,19 @@ unusable_by a i unusable = rw (i.unkeyed, i.short, i.kind, i.well_formed, unusab
 own_by : (a : ServerSeen) → IsForRouters a → a.unusable_source ≡ false → a.from_server ≡ true → row_of a ≡ Dropped fate.Loop
 own_by a i usable own = rw (i.unkeyed, i.short, i.kind, i.well_formed, usable, own) refl
 
-module _ (server : ServerSettings) (client : Settings) (from : Ep) (cone : Bool) (nonce : ℕ) (inside : IsEp client.inside)
-    (nonce_fits : nonce < 2 ^ 64) where
+-- a solicitation of a client, and the server that it asks
+pub record Solicits : Type 0 where
+  pub server : ServerSettings
+  pub client : Settings
+  pub from : Ep
+  pub cone : Bool
+  pub nonce : ℕ
+  pub inside : IsEp client.inside
+  pub nonce_fits : nonce < 2 ^ 64
+
+module _ (solicited : Solicits) where
+  open solicited use {server, client, from, cone, nonce, inside, nonce_fits}
+
   abbrev src : Ip6
   src = link_local cone client.inside
 
@@ -97,10 +108,10 @@ module _ (server : ServerSettings) (client : Settings) (from : Ep) (cone : Bool)
     solicitation = solicits;
   }
 
-  row_is : (side : Side) (rule : Rule) → rule_of server from v ≡ rule
+  row_is : (side : Side) {rule : Rule} → rule_of server from v ≡ rule
       → server_row server side from (solicitation client cone nonce) ≡ step_of server side from (solicitation client cone nonce) v rule
   unfolding server_row
-  row_is side rule is =
+  row_is side is =
       let x = solicitation client cone nonce in
       ap (by_payload server side from x) reads.read ∙ ap (step_of server side from x v) is
 
@@ -110,7 +121,7 @@ module _ (server : ServerSettings) (client : Settings) (from : Ep) (cone : Bool)
 
   pub answered : IsPeer server from → (side : Side) → server_row server side from (solicitation client cone nonce)
       ≡ sends_one fate.Advert (answering_side side src) from (advert_bytes server from (Some nonce) src)
-  answered peer side = row_is side Advert (rule peer)
+  answered peer side = row_is side (rule peer)
 
   -- THE SOURCE
 
@@ -130,10 +141,10 @@ module _ (server : ServerSettings) (client : Settings) (from : Ep) (cone : Bool)
   pub asked_by : (side : Side) → IsAskedBy side
   asked_by side = by (is_usable server.policy from) refl (is_own server from.ip) refl where
     by : (b : Bool) → is_usable server.policy from ≡ b → (own : Bool) → is_own server from.ip ≡ own → IsAskedBy side
-    by false h own e = dropped fate.Source (row_is side (Dropped fate.Source) (rule_unusable h))
-    by true h true e = dropped fate.Loop (row_is side (Dropped fate.Loop) (rule_own h e))
+    by false h own e = dropped fate.Source (row_is side (rule_unusable h))
+    by true h true e = dropped fate.Loop (row_is side (rule_own h e))
     by true h false e = goes_back (h, e)
 
 pub each_solicitation_is_answered : EachSolicitationIsAnswered
 each_solicitation_is_answered server client side from cone nonce may =
-    answered server client from cone nonce may.inside may.nonce_fits may.peer side
+    answered (record { server = server; client = client; from = from; cone = cone; nonce = nonce; inside = may.inside; nonce_fits = may.nonce_fits }) may.peer side

@@ -21,9 +21,9 @@ at_server lab H serves hears n c a = record {
 pub each_answer_at_once_tells : EachAnswerAtOnceTells
 each_answer_at_once_tells lab H serves hears n c is chained g honest listed calm a =
     let question = at_server lab H serves hears n c a in
-    let d = is_served lab H serves n c is g.1 listed question in
+    let d = is_served (record { lab = lab; H = H; serves = serves; n = n; c = c; is = is; g = g.1; listed = listed; a = question }) in
     let t = each_heard_answer_tells lab (serves ∷ H) hears n c is chained g honest listed calm
-    (hears_it lab H serves n c is g.1 listed question hears a.heard a.open_nonce a.leads) in
+    (hears_it (record { lab = lab; H = H; serves = serves; n = n; c = c; is = is; g = g.1; listed = listed; a = question }) hears a.heard a.open_nonce a.leads) in
     record {
       fate = t.fate ∙ ap (λ (z : Qualification). answer_in lab c z.phase) d.same;
       way = subst (λ (z : Qualification). TellsOfWay lab c (answer_in lab c z.phase)) d.same t.way;

@@ -1,35 +1,36 @@
 -- What a client's server made of its question, once it is delivered: it comes to the client, who hears an answer, or ends at a NAT.
-use Rattle.theory_answers.proofs.Words.{ClientNode, Ep, Full, Grown, HearsAnswer, Ip6, IsAnswerTo, IsLetIn, IsShutOut, IsTopology, Item, Lab, List, Made, Qualification, ServerNode, Settings, Some, answering_side, ap, client, client_at, closed, each_is_reached, expected, filter_map, is_one_of, is_shut_out, item_in, items_of, length, link_local_tells, now, of_its_event, own_ep, reaches, route, server, server_settings, slice_get, subst, sym, true, udp, wire, ℕ, ◌++◌, ◌∙◌, ◌∷◌, ◌≡◌}
+use Rattle.theory_answers.proofs.Served.{ServedNext}
+use Rattle.theory_answers.proofs.Words.{Ep, Full, HearsAnswer, Ip6, IsAnswerTo, IsLetIn, IsShutOut, Item, List, Made, Qualification, ServerNode, Settings, Some, answering_side, ap, client, closed, each_is_reached, expected, filter_map, is_one_of, is_shut_out, item_in, items_of, length, link_local_tells, now, of_its_event, own_ep, reaches, route, server, server_settings, slice_get, subst, sym, true, udp, wire, ℕ, ◌++◌, ◌∙◌, ◌∷◌, ◌≡◌}
 use Rattle.theory_answers.proofs.Served as served
-use Rattle.theory_answers.proofs.Served.{IsServedNext}
 use Rattle.theory_answers.proofs.Sent.{last_entry}
 
-module _ (lab : Lab) (H : List Full) (serves : Full) (n : ℕ) (c : ClientNode) (is : IsTopology lab.topology)
-    (g : Grown lab (serves ∷ H)) (listed : client_at lab.topology n ≡ Some c) (a : IsServedNext lab H serves n c) where
+module _ (served_next : ServedNext) where
+  open served_next use {lab, H, serves, n, c, is, g, listed, a}
+
   abbrev s : Settings
-  s = served.s lab H serves n c is g listed a
+  s = served.s served_next
 
   abbrev q : Qualification
-  q = served.q lab H serves n c is g listed a
+  q = served.q served_next
 
   abbrev row : ServerNode
-  row = served.row lab H serves n c is g listed a
+  row = served.row served_next
 
   abbrev src : Ip6
-  src = served.src lab H serves n c is g listed a
+  src = served.src served_next
 
   abbrev advert : List ℕ
-  advert = served.advert lab H serves n c is g listed a
+  advert = served.advert served_next
 
   abbrev from : Ep
-  from = own_ep (server row) (answering_side (served.side lab H serves n c is g listed a) src)
+  from = own_ep (server row) (answering_side (served.side served_next) src)
 
-  abbrev done : served.IsServed lab H serves n c is g listed a
-  done = served.is_served lab H serves n c is g listed a
+  abbrev done : served.IsServed served_next
+  done = served.is_served served_next
 
   -- it comes from where the client expects it
   pub answer_is : a.answer ≡ udp (expected s q) a.left advert
-  answer_is = done.is_given ∙ ap (λ (e : Ep). udp e a.left advert) (served.whence lab H serves n c is g listed a)
+  answer_is = done.is_given ∙ ap (λ (e : Ep). udp e a.left advert) (served.whence served_next)
 
   pub entry : slice_get (wire (serves ∷ H)) serves.first ≡ Some a.answer
   entry =
@@ -42,20 +43,20 @@ module _ (lab : Lab) (H : List Full) (serves : Full) (n : ℕ) (c : ClientNode) 
       → route lab (serves ∷ H) (now (serves ∷ H)) a.answer ≡ reaches n (client c)
   comes_to_it enters = ap (route lab (serves ∷ H) (now (serves ∷ H))) answer_is
       ∙ each_is_reached lab (serves ∷ H) (now (serves ∷ H)) (udp (expected s q) a.left advert) n (client c) is
-      (served.node lab H serves n c is g listed a) enters
+      (served.node served_next) enters
 
   -- and ends at the NAT that shuts it out
-  pub is_shut : (k : ℕ) → IsShutOut lab (serves ∷ H) (now (serves ∷ H)) (expected s q) a.left k
+  pub is_shut : {k : ℕ} → IsShutOut lab (serves ∷ H) (now (serves ∷ H)) (expected s q) a.left k
       → route lab (serves ∷ H) (now (serves ∷ H)) a.answer ≡ closed k
-  is_shut k out = ap (route lab (serves ∷ H) (now (serves ∷ H))) answer_is
+  is_shut {k} out = ap (route lab (serves ∷ H) (now (serves ∷ H))) answer_is
       ∙ is_shut_out lab (serves ∷ H) (now (serves ∷ H)) (expected s q) a.left advert k is out
 
   module _ (hears : Full) (heard : hears.delivered ≡ Some serves.first) (open_nonce : is_one_of q.open_nonces (Some a.nonce) ≡ true) where
     answer_to : IsAnswerTo s q (server_settings row) from a.left a.nonce
     answer_to = record {
-      asked = sym (served.has lab H serves n c is g listed a).primary;
+      asked = sym (served.has served_next).primary;
       open_nonce = open_nonce;
-      source = served.whence lab H serves n c is g listed a;
+      source = served.whence served_next;
       usable = done.peer.0;
     }
 
@@ -72,10 +73,10 @@ module _ (lab : Lab) (H : List Full) (serves : Full) (n : ℕ) (c : ClientNode) 
       entry = entry ∙ ap (λ (y : Item). Some y) done.is_given;
       leads = ap (route lab (serves ∷ H) (now (serves ∷ H))) (sym done.is_given) ∙ leads;
       made = record {
-        primary = served.primary lab H serves n c is g listed a;
+        primary = served.primary served_next;
         origin = done.made;
         nonce_fits = a.fits;
-        address = (link_local_tells (served.cone lab H serves n c is g listed a) s.inside (served.inside lab H serves n c is g listed a)).sixteen;
+        address = (link_local_tells (served.cone served_next) s.inside (served.inside served_next)).sixteen;
       };
       answer = subst (λ (z : Qualification). IsAnswerTo s z (server_settings row) from a.left a.nonce)
           (sym done.same) answer_to;

@@ -32,8 +32,21 @@ pub record IsExchange (lab : Lab) (H waits : List Full) (asks serves hears : Ful
   pub at_once : IsAnsweredAtOnce asks waits serves hears n
   pub asked : is_question asks.fate ≡ true
 
-module _ (lab : Lab) (H waits : List Full) (asks serves hears : Full) (n : ℕ) (c : ClientNode)
-    (z : IsExchange lab H waits asks serves hears n c) where
+-- a question of a client, and its answer
+pub record ExchangeOf : Type 0 where
+  pub lab : Lab
+  pub H : List Full
+  pub waits : List Full
+  pub asks : Full
+  pub serves : Full
+  pub hears : Full
+  pub n : ℕ
+  pub c : ClientNode
+  pub z : IsExchange lab H waits asks serves hears n c
+
+module _ (exchange_of : ExchangeOf) where
+  open exchange_of use {lab, H, waits, asks, serves, hears, n, c, z}
+
   abbrev pub a : IsAnsweredAtOnce asks waits serves hears n
   a = z.at_once
 
@@ -105,8 +118,8 @@ module _ (lab : Lab) (H waits : List Full) (asks serves hears : Full) (n : ℕ) 
   abbrev pub K' : List Full
   K' = serves ∷ K
 
-  pub served : IsServed lab K serves n c z.is z.grown.1 z.listed question_at
-  served = is_served lab K serves n c z.is z.grown.1 z.listed question_at
+  pub served : IsServed (record { lab = lab; H = K; serves = serves; n = n; c = c; is = z.is; g = z.grown.1; listed = z.listed; a = question_at })
+  served = is_served (record { lab = lab; H = K; serves = serves; n = n; c = c; is = z.is; g = z.grown.1; listed = z.listed; a = question_at })
 
   pub delivers : IsDelivering lab K' hears serves.first
   delivers = delivering lab K' hears serves.first (deliveries lab K' hears serves.first z.grown a.heard)

@@ -16,12 +16,12 @@ by_answer lab c f Symmetric same is tells = is
 by_answer lab c f OffLine same is tells = is
 
 -- an answer has the fate of its line
-in_entry : (s : Settings) (j : Journal) (m : ℕ) (w : Words) (server : ServerSettings) (from at : Ep) (nonce : ℕ) (to : Ip6)
+in_entry : {s : Settings} (j : Journal) (m : ℕ) (w : Words) {server : ServerSettings} {from at : Ep} {nonce : ℕ} {to : Ip6}
     → MayBeAnswered server at (Some nonce) to → IsAnswerTo s (qualification s j) server from at nonce
     → (client_in s j m from (advert_bytes server at (Some nonce) to) w).step.fate
     ≡ phase_line (qualification s j).phase (is_same_origin (Some at) (origin_before (qualification s j) (qualification s j).phase))
 unfolding client_in reception standing_at
-in_entry s j m w server from at nonce to made answer =
+in_entry {s} j m w {server} {from} {at} {nonce} {to} made answer =
     let x = advert_bytes server at (Some nonce) to in
     fate_of_reception s (standing_of s j m (source_in x)) from x w
     ∙ each_answer_is_taken s (standing_of s j m (source_in x)) server from at nonce to made answer
@@ -44,15 +44,15 @@ module _ (lab : Lab) (H : List Full) (r : Full) (n : ℕ) (c : ClientNode) (h : 
 
   line : (done_with lab H r n (client c) x).step.fate ≡ phase_line (standing lab H n c).phase same
   line = ap (λ (e : Entry). e.step.fate) (client_does lab H r.moment n h.at c (arrived h.from bytes))
-      ∙ in_entry s (journal n H) r.moment (words lab n H) h.server h.from h.at h.nonce h.to h.made h.answer
+      ∙ in_entry (journal n H) r.moment (words lab n H) h.made h.answer
 
   abbrev fate_with : ℕ → Node → Item → Fate
   fate_with k a y = (done_with lab H r k a y).step.fate
 
   -- it came to the client
-  of_client : (k : ℕ) (a : Node) (y : Item) → slice_get (wire H) h.number ≡ Some y → IsReached lab H r k a y
+  of_client : {k : ℕ} {a : Node} {y : Item} → slice_get (wire H) h.number ≡ Some y → IsReached lab H r k a y
       → (r.node ≡ Some n) × (r.fate ≡ phase_line (standing lab H n c).phase same)
-  of_client k a y at i =
+  of_client {k} {a} {y} at i =
       let item : y ≡ x = ap (λ (o : Option Item). unwrap_or o y) (sym at ∙ h.entry) in
       let goes : reaches k a ≡ reaches n (client c) = sym i.leads ∙ ap (route lab H (now H)) item ∙ h.leads in
       let number : k ≡ n = ap (number_in k) goes in
@@ -62,7 +62,7 @@ module _ (lab : Lab) (H : List Full) (r : Full) (n : ℕ) (c : ClientNode) (h : 
       )
 
   pub of_delivery : Delivery lab H r h.number → (r.node ≡ Some n) × (r.fate ≡ phase_line (standing lab H n c).phase same)
-  of_delivery (to_node k a y at i) = of_client k a y at i
+  of_delivery (to_node k a y at i) = of_client at i
   of_delivery (to_nobody y at i) =
       absurd (i.nobody n (client c) (ap (route lab H (now H)) (ap (λ (o : Option Item). unwrap_or o y) (sym at ∙ h.entry)) ∙ h.leads))
 

@@ -57,8 +57,21 @@ of_expected s q = of_server s q.phase (is_cone q)
 
 -- THE ADVERTISEMENT
 
-module _ (s : Settings) (a : Standing) (server : ServerSettings) (from origin : Ep) (nonce : ℕ) (to : Ip6)
-    (may : MayBeAnswered server origin (Some nonce) to) (answer : IsAnswerTo s a.qualification server from origin nonce) where
+-- a server's answer that a client may be given
+pub record OpenAnswer : Type 0 where
+  pub s : Settings
+  pub a : Standing
+  pub server : ServerSettings
+  pub from : Ep
+  pub origin : Ep
+  pub nonce : ℕ
+  pub to : Ip6
+  pub may : MayBeAnswered server origin (Some nonce) to
+  pub answer : IsAnswerTo s a.qualification server from origin nonce
+
+module _ (open_answer : OpenAnswer) where
+  open open_answer use {s, a, server, from, origin, nonce, to, may, answer}
+
   abbrev x : List ℕ
   x = advert_bytes server origin (Some nonce) to
 
@@ -133,4 +146,4 @@ module _ (s : Settings) (a : Standing) (server : ServerSettings) (from origin : 
       ∙ ap (λ (o : Option Ep). phase_line q.phase (is_same_origin o (origin_before q q.phase))) reads.same_origin
 
 pub each_answer_is_taken : EachAnswerIsTaken
-each_answer_is_taken s a server from origin nonce to may answer = is_taken s a server from origin nonce to may answer
+each_answer_is_taken s a server from origin nonce to may answer = is_taken (record { s = s; a = a; server = server; from = from; origin = origin; nonce = nonce; to = to; may = may; answer = answer })

@@ -16,8 +16,21 @@ pub record IsServedNext (lab : Lab) (H : List Full) (serves : Full) (n : ℕ) (c
   pub answer : Item
   pub makes : serves.made ≡ sent answer ∷ []
 
-module _ (lab : Lab) (H : List Full) (serves : Full) (n : ℕ) (c : ClientNode) (is : IsTopology lab.topology)
-    (g : Grown lab (serves ∷ H)) (listed : client_at lab.topology n ≡ Some c) (a : IsServedNext lab H serves n c) where
+-- a server's record that answers a client at once
+pub record ServedNext : Type 0 where
+  pub lab : Lab
+  pub H : List Full
+  pub serves : Full
+  pub n : ℕ
+  pub c : ClientNode
+  pub is : IsTopology lab.topology
+  pub g : Grown lab (serves ∷ H)
+  pub listed : client_at lab.topology n ≡ Some c
+  pub a : IsServedNext lab H serves n c
+
+module _ (served_next : ServedNext) where
+  open served_next use {lab, H, serves, n, c, is, g, listed, a}
+
   abbrev pub s : Settings
   s = client_settings lab.topology c
 
@@ -71,7 +84,7 @@ module _ (lab : Lab) (H : List Full) (serves : Full) (n : ℕ) (c : ClientNode) 
 
   step_from : IsPeer (server_settings row) a.left
       → server_row (server_settings row) side a.left bytes ≡ sends_one fate.Advert (answering_side side src) a.left advert
-  step_from peer = answered (server_settings row) s a.left cone a.nonce inside a.fits peer side
+  step_from peer = answered (record { server = server_settings row; client = s; from = a.left; cone = cone; nonce = a.nonce; inside = inside; nonce_fits = a.fits }) peer side
 
   abbrev made_by : ℕ → Node → Item → List Made
   made_by k b y = (sendings lab H serves.moment (done_with lab H serves k b y) b).made
@@ -98,7 +111,7 @@ module _ (lab : Lab) (H : List Full) (serves : Full) (n : ℕ) (c : ClientNode) 
       ∙ ap (made_by c.server (server row)) item ∙ ap made_of step) ∙ a.makes
 
   of_server : {k : ℕ} {b : Node} {y : Item} → slice_get (wire H) a.number ≡ Some y → IsReached lab H serves k b y → IsServed
-  of_server {k} {b} {y} at i = by (asked_by (server_settings row) s a.left cone a.nonce inside a.fits side) where
+  of_server {k} {b} {y} at i = by (asked_by (record { server = server_settings row; client = s; from = a.left; cone = cone; nonce = a.nonce; inside = inside; nonce_fits = a.fits }) side) where
     item : y ≡ x
     item = ap (λ (o : Option Item). unwrap_or o y) (sym at ∙ a.asks)
 
@@ -115,7 +128,7 @@ module _ (lab : Lab) (H : List Full) (serves : Full) (n : ℕ) (c : ClientNode) 
     apart false e = e
     apart true e = absurd (other (grind (arith, nat_tests)))
 
-    by : IsAskedBy (server_settings row) s a.left cone a.nonce inside a.fits side → IsServed
+    by : IsAskedBy (record { server = server_settings row; client = s; from = a.left; cone = cone; nonce = a.nonce; inside = inside; nonce_fits = a.fits }) side → IsServed
     by (dropped f step) = absurd (false≢true (ap is_sent (made_is i item goes step)))
     by (goes_back may) = record {
       is_given = got_through (own_ep (server row)) (record { side = answering_side side src; to = a.left; bytes = advert }) a.answer

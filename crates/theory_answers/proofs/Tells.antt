@@ -48,9 +48,9 @@ module _ (lab : Lab) (H : List Full) (r : Full) (n : ℕ) (c : ClientNode) (j : 
     by true h = absurd (false≢true (sym (j.right.symmetric h) ∙ ap is_qualified at))
 
   -- the address has the cone bit
-  bit : (w : Option ℕ) (o : Option Ep) (own : Ip6) → IfSome o IsEp → IsIp4 s.primary → address_told s true w o ≡ Some own → has_cone own ≡ true
-  bit w None own made primary at = absurd (false≢true (ap (λ (z : Option Ip6). is_some z) at))
-  bit w (Some ep) own made primary at =
+  bit : (w : Option ℕ) (o : Option Ep) {own : Ip6} → IfSome o IsEp → IsIp4 s.primary → address_told s true w o ≡ Some own → has_cone own ≡ true
+  bit w None made primary at = absurd (false≢true (ap (λ (z : Option Ip6). is_some z) at))
+  bit w (Some ep) made primary at =
       let ip : Ip6 = teredo_ip s.primary (flags_of true w) ep in
       ap (λ (z : Option Ip6). has_cone (unwrap_or z ip)) (sym at)
       ∙ (teredo_tells s.primary (flags_of true w) ep primary (flags_tell true w).sixteen made).cone_is ∙ (flags_tell true w).cone_is
@@ -65,7 +65,7 @@ module _ (lab : Lab) (H : List Full) (r : Full) (n : ℕ) (c : ClientNode) (j : 
         ∙ ap (λ (f : Fate). address_then s q.phase (turn f) (flags_word s e.words) (origin_given e.input) q.address) at
 
     by : (own : Ip6) × IsSettledAlong lab (r ∷ H) n c own → is_all_cone lab c ≡ true
-    by settled = settled.1.cone (bit (flags_word s e.words) (origin_given e.input) settled.0 (origin_made e.input input)
+    by settled = settled.1.cone (bit (flags_word s e.words) (origin_given e.input) (origin_made e.input input)
         (client_made lab.topology n c j.is j.act.there).primary (sym told ∙ settled.1.address))
 
   unchanged : e.step.fate ≡ fate.Changed → ⊥

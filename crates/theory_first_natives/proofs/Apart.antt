@@ -32,11 +32,11 @@ clash p (x ∷ xs) ys d h g = by (same_ip6 p x) refl (λ k. clash p xs ys d.1 k 
 -- WHERE A NODE OF A KIND STANDS
 
 -- a node that is of none of the first kinds stands among the last ones
-among : {A : Type 0} (f : A → Node) (xs : List A) (rest : List Node) (n : ℕ) (b : Node) (of : Node → Bool) → ((x : A) → of (f x) ≡ false)
+among : {A : Type 0} (f : A → Node) (xs : List A) (rest : List Node) (n : ℕ) {b : Node} (of : Node → Bool) → ((x : A) → of (f x) ≡ false)
     → slice_get (map f xs ++ rest) n ≡ Some b → of b ≡ true → (m : ℕ) × (slice_get rest m ≡ Some b)
-among f [] rest n b of none at is = (n, at)
-among f (x ∷ xs) rest zero b of none at is = absurd (false≢true (sym (none x) ∙ ap (λ (o : Option Node). of (unwrap_or o b)) at ∙ is))
-among f (x ∷ xs) rest (suc n) b of none at is = among f xs rest n b of none at is
+among f [] rest n of none at is = (n, at)
+among f (x ∷ xs) rest zero {b} of none at is = absurd (false≢true (sym (none x) ∙ ap (λ (o : Option Node). of (unwrap_or o b)) at ∙ is))
+among f (x ∷ xs) rest (suc n) {b} of none at is = among f xs rest n of none at is
 
 -- so a native's address is among those of natives, and a relay's among those of relays
 native_listed : (hs : List NativeNode) (n : ℕ) (h : NativeNode) → slice_get (map native hs) n ≡ Some (native h)
@@ -70,23 +70,23 @@ no_relays (x ∷ hs) (suc m) r at = no_relays hs m r at
 pub native_among : (t : TopologyState) (m : ℕ) (h : NativeNode) → node_at t m ≡ Some (native h)
     → (j : ℕ) × (slice_get (map native t.natives) j ≡ Some (native h))
 native_among t m h at =
-    let behind_servers = among server t.servers (map nat t.nats ++ (map client t.clients ++ (map relay t.relays ++ map native t.natives))) m (native h)
+    let behind_servers = among server t.servers (map nat t.nats ++ (map client t.clients ++ (map relay t.relays ++ map native t.natives))) m
     is_native_node (λ x. refl) at refl in
-    let behind_nats = among nat t.nats (map client t.clients ++ (map relay t.relays ++ map native t.natives)) behind_servers.0 (native h)
+    let behind_nats = among nat t.nats (map client t.clients ++ (map relay t.relays ++ map native t.natives)) behind_servers.0
     is_native_node (λ x. refl) behind_servers.1 refl in
-    let behind_clients = among client t.clients (map relay t.relays ++ map native t.natives) behind_nats.0 (native h) is_native_node (λ x. refl)
+    let behind_clients = among client t.clients (map relay t.relays ++ map native t.natives) behind_nats.0 is_native_node (λ x. refl)
     behind_nats.1 refl in
-    among relay t.relays (map native t.natives) behind_clients.0 (native h) is_native_node (λ x. refl) behind_clients.1 refl
+    among relay t.relays (map native t.natives) behind_clients.0 is_native_node (λ x. refl) behind_clients.1 refl
 
 module _ (t : TopologyState) (is : IsTopology t) (k m : ℕ) (r : RelayNode) (h : NativeNode) (relay_at : node_at t k ≡ Some (relay r))
     (native_at : node_at t m ≡ Some (native h)) where
   relay_there : list_any (same_ip6 r.six) (map (λ (z : RelayNode). z.six) t.relays) ≡ true
   relay_there =
-      let behind_servers = among server t.servers (map nat t.nats ++ (map client t.clients ++ (map relay t.relays ++ map native t.natives))) k (relay r)
+      let behind_servers = among server t.servers (map nat t.nats ++ (map client t.clients ++ (map relay t.relays ++ map native t.natives))) k
       is_relay_node (λ x. refl) relay_at refl in
-      let behind_nats = among nat t.nats (map client t.clients ++ (map relay t.relays ++ map native t.natives)) behind_servers.0 (relay r)
+      let behind_nats = among nat t.nats (map client t.clients ++ (map relay t.relays ++ map native t.natives)) behind_servers.0
       is_relay_node (λ x. refl) behind_servers.1 refl in
-      let behind_clients = among client t.clients (map relay t.relays ++ map native t.natives) behind_nats.0 (relay r) is_relay_node (λ x. refl)
+      let behind_clients = among client t.clients (map relay t.relays ++ map native t.natives) behind_nats.0 is_relay_node (λ x. refl)
       behind_nats.1 refl in
       relay_listed t.relays (map native t.natives) behind_clients.0 r (λ i. no_relays t.natives i r) behind_clients.1
 

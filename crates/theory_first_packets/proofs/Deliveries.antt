@@ -71,24 +71,24 @@ record OfHost (lab : Lab) (H : List Full) (r : Full) (n : ℕ) (dst : Ep) (x : L
   moment : r.moment ≡ now H
   nowhere : dst ≡ no_ep
 
-of_host : (lab : Lab) (H : List Full) (r : Full) (n : ℕ) (a : Node) (dst : Ep) (input : Input) (x : List ℕ) → IsGiven lab H r n a dst input
+of_host : {lab : Lab} (H : List Full) {r : Full} {n : ℕ} {a : Node} {dst : Ep} {input : Input} (x : List ℕ) → IsGiven lab H r n a dst input
     → input ≡ given x → OfHost lab H r n dst x
-of_host lab H r n a dst input x (delivered number y told there goes moment to same) is = absurd (false≢true (sym (of_item y) ∙ ap is_given (sym same ∙ is)))
-of_host lab H r n a dst input x (hosted v y hands none moment to same) is = record {
+of_host H x (delivered number y told there goes moment to same) is = absurd (false≢true (sym (of_item y) ∙ ap is_given (sym same ∙ is)))
+of_host {lab} H {r} {n} x (hosted v y hands none moment to same) is = record {
   verb = v;
   hands = subst (λ (z : List ℕ). Hands lab H r.asked v n z) (ap bytes_given (sym same ∙ is)) hands;
   delivered = none;
   moment = moment;
   nowhere = to;
 }
-of_host lab H r n a dst input x (ticks due least one none moment to same) is = absurd (false≢true (ap is_given (sym same ∙ is)))
+of_host H x (ticks due least one none moment to same) is = absurd (false≢true (ap is_given (sym same ∙ is)))
 
 -- an act on a packet is what the node does with it at once
-handing : (lab : Lab) (H : List Full) (r : Full) (n : ℕ) (a : Node) (e : Entry) (x : List ℕ) → IsActOf lab H r n a e → e.input ≡ given x
+handing : {lab : Lab} (H : List Full) {r : Full} {n : ℕ} {a : Node} {e : Entry} (x : List ℕ) → IsActOf lab H r n a e → e.input ≡ given x
     → Handing lab H r n a x
-handing lab H r n a e x act was =
+handing {lab} H {r} {n} {a} {e} x act was =
     let input : act.input ≡ given x = sym (ap (λ (z : Entry). z.input) act.step ∙ entry_input lab H r.moment n act.dst act.input a) ∙ was in
-    let host : OfHost lab H r n act.dst x = of_host lab H r n a act.dst act.input x act.is_given input in
+    let host : OfHost lab H r n act.dst x = of_host H x act.is_given input in
     let same : e ≡ entry_of lab H (now H) n no_ep (given x) a = act.step
     ∙ ap (λ (m : ℕ). entry_of lab H m n act.dst act.input a) host.moment
     ∙ ap (λ (to : Ep). entry_of lab H (now H) n to act.input a) host.nowhere
@@ -103,9 +103,9 @@ handing lab H r n a e x act was =
     }
 
 -- in the record in which a host hands in a packet
-pub host_hands : (lab : Lab) (H : List Full) (r : Full) (n : ℕ) (a : Node) (own other : Ip6) (x : List ℕ) → node_at lab.topology n ≡ Some a
+pub host_hands : {lab : Lab} (H : List Full) {r : Full} {n : ℕ} {a : Node} {own other : Ip6} {x : List ℕ} → node_at lab.topology n ≡ Some a
     → Follows lab H r → HostHandsIn r n own other x → Handing lab H r n a x
-host_hands lab H r n a own other x there follows is = by (of_node lab H r n a follows is.node there) where
+host_hands {lab} H {r} {n} {a} {x} there follows is = by (of_node lab H r n a follows is.node there) where
   by : OfNode lab H r n a → Handing lab H r n a x
   by (rests idle) = absurd (false≢true (ap (λ (o : Option Entry). is_some o) (sym idle.entry ∙ is.did)))
-  by (acts f act) = handing lab H r n a f x act (ap (λ (o : Option Entry). (unwrap_or o f).input) (sym act.entry ∙ is.did) ∙ is.packet_in)
+  by (acts f act) = handing H x act (ap (λ (o : Option Entry). (unwrap_or o f).input) (sym act.entry ∙ is.did) ∙ is.packet_in)

@@ -93,10 +93,28 @@ module _ (the : TurnedAway) where
   stale = ap (is_fresh (now H)) (unlisted (mentions (journal n H).entries) (now H) (fields_in x).dst
       (not_listed (mentions (journal n H).entries) (now H) (fields_in x).dst full))
 
-  is_turned : IsTurned (setup lab a_side) (journal n H) (now H) x turned.handed.packet.packet its_meets its_here
-      (handed_in.small lab H r n (client a) x is_handed_in) turned.handed.packet.no_bubble stale e
-  is_turned = turned_away (setup lab a_side) (journal n H) (now H) x turned.handed.packet.packet its_meets its_here
-      (handed_in.small lab H r n (client a) x is_handed_in) turned.handed.packet.no_bubble stale
+  is_turned : IsTurned (record {
+    s = setup lab a_side;
+    j = journal n H;
+    n = now H;
+    x = x;
+    is_one = turned.handed.packet.packet;
+    meets = its_meets;
+    here = its_here;
+    small = handed_in.small lab H r n (client a) x is_handed_in;
+    plain = turned.handed.packet.no_bubble;
+  }) stale e
+  is_turned = turned_away (record {
+    s = setup lab a_side;
+    j = journal n H;
+    n = now H;
+    x = x;
+    is_one = turned.handed.packet.packet;
+    meets = its_meets;
+    here = its_here;
+    small = handed_in.small lab H r n (client a) x is_handed_in;
+    plain = turned.handed.packet.no_bubble;
+  }) stale
       (ap has_cone turned.handed.packet.destination ∙ turned.plain) full (words lab n H)
 
   pub nothing : r.made ≡ []

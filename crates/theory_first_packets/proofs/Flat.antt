@@ -7,9 +7,9 @@ module _ (d : Draws) (t : TopologyState) (is : IsTopology t) where
   abbrev lab : Lab
   lab = flat_lab d t
 
-  strangers : (H : List Full) (n m : ℕ) (a b : ClientNode) (own other : Ip6) → Grown lab H → AreStrangers lab H n m a b own other
+  strangers : (H : List Full) {n m : ℕ} {a b : ClientNode} {own other : Ip6} → Grown lab H → AreStrangers lab H n m a b own other
       → AreStrangersAlong lab H n m a b own other
-  strangers H n m a b own other g are = record {
+  strangers H {n} {m} {a} {b} {own} {other} g are = record {
     sender = are.sender;
     receiver = are.receiver;
     apart = are.apart;
@@ -19,9 +19,9 @@ module _ (d : Draws) (t : TopologyState) (is : IsTopology t) where
     receiver_new = are.receiver_new;
   }
 
-  may_meet : (H : List Full) (n m : ℕ) (a b : ClientNode) (own other : Ip6) → Grown lab H → MayMeet lab H n m a b own other
+  may_meet : (H : List Full) {n m : ℕ} {a b : ClientNode} {own other : Ip6} → Grown lab H → MayMeet lab H n m a b own other
       → MayMeetAlong lab H n m a b own other
-  may_meet H n m a b own other g may = record {
+  may_meet H {n} {m} {a} {b} {own} {other} g may = record {
     sender = may.sender;
     receiver = may.receiver;
     apart = may.apart;
@@ -39,16 +39,16 @@ pub next_arrives : EachNextPacketArrives
 next_arrives d t H r later is g n m a b own other x next fresh =
     let lab = flat_lab d t in
     each_next lab H r later is (flat_is_chained lab refl) g n m a b own other x
-    (record { clients = may_meet d t is H n m a b own other (earlier lab later (r ∷ H) g).1 next.clients; handed = next.handed }) fresh
+    (record { clients = may_meet d t is H (earlier lab later (r ∷ H) g).1 next.clients; handed = next.handed }) fresh
 
 pub first_arrives : EachFirstPacketArrives
 first_arrives d t H r later is g n m a b own other x first fresh =
     let lab = flat_lab d t in
     each_first lab H r later is (flat_is_chained lab refl) g n m a b own other x
-    (record { clients = strangers d t is H n m a b own other (earlier lab later (r ∷ H) g).1 first.clients; handed = first.handed }) fresh
+    (record { clients = strangers d t is H (earlier lab later (r ∷ H) g).1 first.clients; handed = first.handed }) fresh
 
 pub takes_course : EachTakesACourse
 takes_course d t H r later is g n m a b own other x first fresh complete =
     let lab = flat_lab d t in
     each_course lab H r later is (flat_is_chained lab refl) g n m a b own other x
-    (record { clients = strangers d t is H n m a b own other (earlier lab later (r ∷ H) g).1 first.clients; handed = first.handed }) fresh complete
+    (record { clients = strangers d t is H (earlier lab later (r ∷ H) g).1 first.clients; handed = first.handed }) fresh complete

@@ -28,7 +28,7 @@ pub record IsHandedIn (lab : Lab) (H : List Full) (r : Full) (n : ℕ) (a : Node
 
 module _ (lab : Lab) (H : List Full) (r : Full) (n : ℕ) (a : Node) (x : List ℕ) (is : IsHandedIn lab H r n a x) where
   pub hand : Handing lab H r n a x
-  hand = host_hands lab H r n a is.own is.other x is.there is.grown.0 is.handed
+  hand = host_hands H is.there is.grown.0 is.handed
 
   abbrev e : Entry
   e = entry_of lab H (now H) n no_ep (given x) a

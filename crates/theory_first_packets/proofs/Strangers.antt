@@ -41,9 +41,9 @@ strangers_may lab H n m a b own other are = record {
 }
 
 -- along their ways too
-strangers_along : (lab : Lab) (H : List Full) (n m : ℕ) (a b : ClientNode) (own other : Ip6) → AreStrangersAlong lab H n m a b own other
+strangers_along : {lab : Lab} (H : List Full) {n m : ℕ} {a b : ClientNode} {own other : Ip6} → AreStrangersAlong lab H n m a b own other
     → MayMeetAlong lab H n m a b own other
-strangers_along lab H n m a b own other are = record {
+strangers_along H {n} {m} {own} {other} are = record {
   sender = are.sender;
   receiver = are.receiver;
   apart = are.apart;
@@ -60,7 +60,7 @@ strangers_along lab H n m a b own other are = record {
 pub each_first : OfEachSchedule FirstPacketArrivesAlong
 each_first lab H r later is chained g n m a b own other x first fresh =
     each_next lab H r later is chained g n m a b own other x
-    (record { clients = strangers_along lab H n m a b own other first.clients; handed = first.handed }) fresh
+    (record { clients = strangers_along H first.clients; handed = first.handed }) fresh
 
 -- THE COURSES
 
@@ -94,12 +94,12 @@ each_course lab H r later is chained g n m a b own other x first fresh complete 
       rules = is;
       chained = chained;
       grown = earlier lab later (r ∷ H) g;
-      first = record { clients = strangers_along lab H n m a b own other first.clients; handed = first.handed };
+      first = record { clients = strangers_along H first.clients; handed = first.handed };
       sound = sound_first r later fresh;
     } in
     let sender = untrusted H n other first.clients.sender_new (embedded other) in
     let receiver = untrusted H m own first.clients.receiver_new (embedded own) in
     let forth = is_trusted_at (embedded own) (known_by H m own) in
-    (ended p H r start later g fresh P (has_cone other) refl (has_cone own) refl
+    (ended (record { p = p; H = H; r = r; start = start; later = later; g = g; fresh = fresh }) P (has_cone other) refl (has_cone own) refl
     (subst (λ (back : Bool). AtFirst P back forth (has_cone own) (has_cone other)) (sym sender)
     (subst (λ (z : Bool). AtFirst P false z (has_cone own) (has_cone other)) (sym receiver) (all_courses (has_cone own) (has_cone other))))).course complete

@@ -43,11 +43,22 @@ came_as s own ticked o x h e = absurd h
 
 -- THE RECORD
 
-module _ (lab : Lab) (H : List Full) (r : Full) (n : ℕ) (c : ClientNode) (x : List ℕ) where
+-- a record, a client and a packet
+record BroughtTo : Type 0 where
+  lab : Lab
+  H : List Full
+  r : Full
+  n : ℕ
+  c : ClientNode
+  x : List ℕ
+
+module _ (brought_to : BroughtTo) where
+  open brought_to use {lab, H, r, n, c, x}
+
   -- an item that came as a datagram is one
-  of_item : {from : Ep} {y : List ℕ} → IsOf from y x → (number : ℕ) (item : Item) → arrived from y ≡ input_of item
+  of_item : {from : Ep} {y : List ℕ} → IsOf from y x → {number : ℕ} (item : Item) → arrived from y ≡ input_of item
       → (r.delivered ≡ Some number) × (slice_get (wire H) number ≡ Some item) → Reaches lab H (now H) item n (client c) → IsBrought lab H r c x
-  of_item {from} {y} of number (udp src dst bytes) same at goes =
+  of_item {from} {y} of {number} (udp src dst bytes) same at goes =
       let sources : src ≡ from = sym (ap (from_of from) same) in
       let all : bytes ≡ y = sym (ap bytes_of same) in
       record {
@@ -63,17 +74,17 @@ module _ (lab : Lab) (H : List Full) (r : Full) (n : ℕ) (c : ClientNode) (x : 
         no_bubble = of.no_bubble;
         embeds = λ teredo. sources ∙ of.embeds teredo;
       }
-  of_item of number (six to bytes) same at goes = absurd (false≢true (sym (ap is_arrived same)))
+  of_item of (six to bytes) same at goes = absurd (false≢true (sym (ap is_arrived same)))
 
-  of_given : (from : Ep) (y : List ℕ) → IsOf from y x → (dst : Ep) (input : Input) → IsGiven lab H r n (client c) dst input → input ≡ arrived from y
+  of_given : {from : Ep} {y : List ℕ} → IsOf from y x → {dst : Ep} {input : Input} → IsGiven lab H r n (client c) dst input → input ≡ arrived from y
       → IsBrought lab H r c x
-  of_given from y of dst input (delivered number item by at goes moment to same) is =
-      of_item of number item (sym is ∙ same) (by, at) (routes lab H (now H) item n (client c) goes)
-  of_given from y of dst input (hosted v z hands none moment to same) is = absurd (false≢true (sym (ap is_arrived (sym is ∙ same))))
-  of_given from y of dst input (ticks d due at none moment to same) is = absurd (false≢true (sym (ap is_arrived (sym is ∙ same))))
+  of_given of (delivered number item by at goes moment to same) is =
+      of_item of {number = number} item (sym is ∙ same) (by, at) (routes lab H (now H) item n (client c) goes)
+  of_given of (hosted v z hands none moment to same) is = absurd (false≢true (sym (ap is_arrived (sym is ∙ same))))
+  of_given of (ticks d due at none moment to same) is = absurd (false≢true (sym (ap is_arrived (sym is ∙ same))))
 
-  of_act : (e : Entry) → Grown lab (r ∷ H) → IsActOf lab H r n (client c) e → r.handed ≡ Some x → IsBrought lab H r c x
-  of_act e g act hands =
+  of_act : {e : Entry} → Grown lab (r ∷ H) → IsActOf lab H r n (client c) e → r.handed ≡ Some x → IsBrought lab H r c x
+  of_act {e} g act hands =
       let s : Settings = client_settings lab.topology c in
       let is_j : IsJournal s (with_entry (journal n H) e) = subst (IsJournal s) act.later (client_journals lab (r ∷ H) n c g act.there).journal in
       let out : option_and_then (part_of e.input) e.step.handed ≡ Some x = sym act.handed ∙ hands in
@@ -82,14 +93,14 @@ module _ (lab : Lab) (H : List Full) (r : Full) (n : ℕ) (c : ClientNode) (x : 
       by s same (came_as s (qualification s (journal n H)).address e.input e.step.handed x one.0 out)
     where
       by : (s : Settings) → e.input ≡ act.input → CameAs s (qualification s (journal n H)).address e.input e.step.handed x → IsBrought lab H r c x
-      by s same (as_datagram from y is of) = of_given from y of act.dst act.input act.is_given (sym same ∙ is)
+      by s same (as_datagram from y is of) = of_given of act.is_given (sym same ∙ is)
 
   of_record : Grown lab (r ∷ H) → OfNode lab H r n (client c) → r.handed ≡ Some x → IsBrought lab H r c x
   of_record g (rests idle) hands = absurd (false≢true (ap (λ (z : Option (List ℕ)). is_some z) (sym idle.handed ∙ hands)))
-  of_record g (acts e act) hands = of_act e g act hands
+  of_record g (acts e act) hands = of_act g act hands
 
 pub each_is_brought : EachIsBrought
-each_is_brought lab H r n c x g o = of_record lab H r n c x g (of_client lab H r n c g.0 o.node o.client) o.packet
+each_is_brought lab H r n c x g o = of_record (record { lab = lab; H = H; r = r; n = n; c = c; x = x }) g (of_client lab H r n c g.0 o.node o.client) o.packet
 
 -- WHAT IS HANDED OVER LATE
 

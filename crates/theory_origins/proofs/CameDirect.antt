@@ -47,10 +47,10 @@ module _ (s : Settings) (j : Journal) (e : Entry) (follows : IsJournal s (with_e
   came_direct rule = came s j e.moment from y follows.0.words (subst (λ (z : Entry). DirectRule z.step.fate) entry_is rule)
 
 -- the packet of such an entry is the end of the datagram
-pub packet_of : (s : Settings) (j : Journal) (e : Entry) → IsJournal s (with_entry j e) → (from : Ep) (y x : List ℕ) → e.input ≡ arrived from y
+pub packet_of : {s : Settings} (j : Journal) (e : Entry) → IsJournal s (with_entry j e) → (from : Ep) (y : List ℕ) {x : List ℕ} → e.input ≡ arrived from y
     → is_payload y ≡ true → e.packet ≡ Some x → x ≡ drop (value_in y).lead.at y
 unfolding client_in packet_in
-packet_of s j e follows from y x input payload has =
+packet_of {s} j e follows from y {x} input payload has =
     let is : e ≡ client_in s j e.moment from y follows.0.words = follows.0.is ∙ ap (λ (i : Input). client_entry s j e.moment i follows.0.words) input in
     let in_it : Some x ≡ Some (drop (value_in y).lead.at y) = sym has ∙ ap (λ (z : Entry). z.packet) is
     ∙ ap (λ (b : Bool). cond b (Some (drop (value_in y).lead.at y)) None) payload in

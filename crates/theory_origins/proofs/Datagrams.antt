@@ -8,7 +8,19 @@ use Rattle.theory_origins.proofs.GivenIn.{IsGivenIn, of_entry}
 
 -- AT ONCE
 
-module _ (lab : Lab) (H : List Full) (r : Full) (g : Grown lab (r ∷ H)) (n : ℕ) (c : ClientNode) (x : List ℕ) where
+-- a packet that a record gives a client
+pub record ClientGiven : Type 0 where
+  pub lab : Lab
+  pub H : List Full
+  pub r : Full
+  pub g : Grown lab (r ∷ H)
+  pub n : ℕ
+  pub c : ClientNode
+  pub x : List ℕ
+
+module _ (client_given : ClientGiven) where
+  open client_given use {lab, H, r, g, n, c, x}
+
   abbrev own : Settings
   own = client_settings lab.topology c
 
@@ -37,21 +49,21 @@ module _ (lab : Lab) (H : List Full) (r : Full) (g : Grown lab (r ∷ H)) (n : �
     given_it : IsGivenIn lab past record_of n c x
     held_it : HeldIn H n given_it.number x
 
-  arrived_from : (i : Input) (from : Ep) → source_of i ≡ Some from → (y : List ℕ) × (i ≡ arrived from y)
-  arrived_from (arrived e y) from is = (y, ap (λ (o : Option Ep). arrived (unwrap_or o e) y) is)
-  arrived_from (given y) from is = absurd (false≢true (ap (λ (o : Option Ep). is_some o) is))
-  arrived_from (from_six y) from is = absurd (false≢true (ap (λ (o : Option Ep). is_some o) is))
-  arrived_from ticked from is = absurd (false≢true (ap (λ (o : Option Ep). is_some o) is))
+  arrived_from : (i : Input) {from : Ep} → source_of i ≡ Some from → (y : List ℕ) × (i ≡ arrived from y)
+  arrived_from (arrived e y) is = (y, ap (λ (o : Option Ep). arrived (unwrap_or o e) y) is)
+  arrived_from (given y) is = absurd (false≢true (ap (λ (o : Option Ep). is_some o) is))
+  arrived_from (from_six y) is = absurd (false≢true (ap (λ (o : Option Ep). is_some o) is))
+  arrived_from ticked is = absurd (false≢true (ap (λ (o : Option Ep). is_some o) is))
 
-  was_held : (at : node_at lab.topology n ≡ Some (client c)) (from : Ep) (p : Option Ip6) → WasHeldIn (epoch (journal n H).entries) from p x → GivenBefore
-  was_held at from p (e, there, was) =
+  was_held : (at : node_at lab.topology n ≡ Some (client c)) {from : Ep} {p : Option Ip6} → WasHeldIn (epoch (journal n H).entries) from p x → GivenBefore
+  was_held at {from} (e, there, was) =
       let rec : IsRecorded lab H n e = is_recorded lab H n e g.1 (in_epoch (journal n H).entries e there) in
       let grown : Grown lab (rec.record_of ∷ rec.earlier) = earlier lab rec.later (rec.record_of ∷ rec.earlier) (subst (Grown lab) rec.split g.1) in
       let one : rec.node ≡ client c = ap (λ (o : Option Node). unwrap_or o rec.node) (sym rec.act.there ∙ at) in
       let act : IsActOf lab rec.earlier rec.record_of n (client c) e = subst (λ (b : Node). IsActOf lab rec.earlier rec.record_of n b e) one rec.act in
-      let (y, input) = arrived_from e.input from was.came in
+      let (y, input) = arrived_from e.input was.came in
       let it : IsGivenIn lab rec.earlier rec.record_of n c x = of_entry lab rec.earlier rec.record_of n c x grown act from y input (holds was.rule)
-      (λ is_j came. packet_of own (journal n rec.earlier) e is_j from y x input came.payload was.packet) in
+      (λ is_j came. packet_of (journal n rec.earlier) e is_j from y input came.payload was.packet) in
       record {
         later = rec.later;
         record_of = rec.record_of;
@@ -80,7 +92,7 @@ module _ (lab : Lab) (H : List Full) (r : Full) (g : Grown lab (r ∷ H)) (n : �
     by_late : (e : Entry) → r.late ≡ e.step.late → HandsLate (epoch (journal n H).entries) e → GivenBefore
     by_late e same (nothing none) = absurd (none_in r.late (same ∙ none) now_late)
     by_late e same (rule2 from is fate all) =
-        was_held at from e.peer (All-contains (WasHeldIn (epoch (journal n H).entries) from e.peer) e.step.late x
+        was_held at (All-contains (WasHeldIn (epoch (journal n H).entries) from e.peer) e.step.late x
         (All-from_recursion (WasHeldIn (epoch (journal n H).entries) from e.peer) e.step.late all)
         (subst (λ (ys : List (List ℕ)). Contains ys x) same now_late))
 
@@ -100,13 +112,13 @@ pub record CameDirect (lab : Lab) (H : List Full) (r : Full) (n : ℕ) (c : Clie
   pub datagram : slice_get (wire H) in_it.number ≡ Some (udp in_it.from in_it.dst in_it.bytes)
   pub brings : IsBringer H r n in_it.number x
 
-pub each_came_direct : (lab : Lab) (H : List Full) (r : Full) (n : ℕ) (c : ClientNode) (x : List ℕ) → Grown lab (r ∷ H)
+pub each_came_direct : {lab : Lab} (H : List Full) {r : Full} {n : ℕ} {c : ClientNode} {x : List ℕ} → Grown lab (r ∷ H)
     → node_at lab.topology n ≡ Some (client c) → ReachesHost lab r n c x → CameDirect lab H r n c x
-each_came_direct lab H r n c x g at (hands_now o) =
-    let it = at_once_in lab H r g n c x o.node o.client o.packet in
+each_came_direct {lab} H {r} {n} {c} {x} g at (hands_now o) =
+    let it = at_once_in (record { lab = lab; H = H; r = r; g = g; n = n; c = c; x = x }) o.node o.client o.packet in
     record { past = H; record_of = r; in_it = it; datagram = it.datagram; brings = at_once o.packet it.told }
-each_came_direct lab H r n c x g at (hands_late node there now_late) =
-    let before = handed_late lab H r g n c x at there node now_late in
+each_came_direct {lab} H {r} {n} {c} {x} g at (hands_late node there now_late) =
+    let before = handed_late (record { lab = lab; H = H; r = r; g = g; n = n; c = c; x = x }) at there node now_late in
     let it = before.given_it in
     record {
       past = before.past;

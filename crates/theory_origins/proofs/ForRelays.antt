@@ -35,13 +35,23 @@ later_still lab r H (udp src dst bytes) of = tt
 later_still lab r H (six None bytes) of = tt
 later_still lab r H (six (Some j) bytes) of = lasts lab (r ∷ []) H j bytes of
 
-module _ (lab : Lab) (H : List Full) (r : Full) (is : IsTopology lab.topology) (g : Grown lab (r ∷ H)) where
+-- the latest record of a history of a topology that keeps its rules
+pub record LatestRecord : Type 0 where
+  pub lab : Lab
+  pub H : List Full
+  pub r : Full
+  pub is : IsTopology lab.topology
+  pub g : Grown lab (r ∷ H)
+
+module _ (latest_record : LatestRecord) where
+  open latest_record use {lab, H, r, is, g}
+
   abbrev P : Item → Type 0
   P = IsForRelay lab (r ∷ H)
 
-  of_native : (n : ℕ) (h : NativeNode) (e : Entry) (bytes : List ℕ) → IsActOf lab H r n (native h) e → native_packet h e.input ≡ Some bytes
+  of_native : {n : ℕ} {h : NativeNode} {e : Entry} {bytes : List ℕ} → IsActOf lab H r n (native h) e → native_packet h e.input ≡ Some bytes
       → IsBytes bytes → is_packet bytes ≡ true → P (six (relay_for h bytes) bytes)
-  of_native n h e bytes act packet made one = by (is_teredo (fields_in bytes).dst) where
+  of_native {n} {h} {e} {bytes} act packet made one = by (is_teredo (fields_in bytes).dst) where
     by : (b : Bool) → P (six (cond b (Some h.relay) None) bytes)
     by false = tt
     by true = record {
@@ -49,7 +59,7 @@ module _ (lab : Lab) (H : List Full) (r : Full) (is : IsTopology lab.topology) (
       host = h;
       there = act.there;
       names = refl;
-      source = native_source (record { lab = lab; before = H; full = r; is = is; grown = g }) n h e bytes act packet made one;
+      source = native_source (record { lab = lab; before = H; full = r; is = is; grown = g }) act packet made one;
       sent = record { later = []; record_of = r; earlier = H; split = refl; node = act.node; entry = e; did = act.entry; packet = packet };
     }
 
@@ -59,7 +69,7 @@ module _ (lab : Lab) (H : List Full) (r : Full) (is : IsTopology lab.topology) (
   one x (by_relay n a f s act sends e) made packet = subst P (sym e) tt
   one x (by_client n c f s src act sends leaves e) made packet = subst P (sym e) tt
   one x (by_native n h f bytes act sends e) made packet =
-      subst P (sym e) (of_native n h f bytes act sends (subst IsMadeItem e made).bytes (subst IsPacketItem e packet))
+      subst P (sym e) (of_native act sends (subst IsMadeItem e made).bytes (subst IsPacketItem e packet))
   one x (to_six n a f from bytes span act came gives e) made packet = subst P (sym e) tt
 
   each : (xs : List Item) → AllByRecursion (MadeBy lab H r) xs → AllByRecursion IsMadeItem xs → AllByRecursion IsPacketItem xs → AllByRecursion P xs
@@ -74,7 +84,7 @@ wire_of_natives lab (r ∷ H) is g =
     let history : IsMadeHistory lab (r ∷ H) = wire_is_made lab (r ∷ H) is g in
     let before = all_map (IsForRelay lab H) (IsForRelay lab (r ∷ H)) (wire H) (later_still lab r H) (wire_of_natives lab H is g.1) in
     all_joined (IsForRelay lab (r ∷ H)) (wire H) (items_of r) before
-    (each lab H r is g (items_of r) (items_are_made lab H r g) (all_right IsMadeItem (wire H) (items_of r) history.wire)
+    (each (record { lab = lab; H = H; r = r; is = is; g = g }) (items_of r) (items_are_made lab H r g) (all_right IsMadeItem (wire H) (items_of r) history.wire)
     (all_right IsPacketItem (wire H) (items_of r) history.packets))
 
 -- WHAT A RELAY WAS GIVEN
@@ -92,9 +102,9 @@ abbrev six_in : List ℕ → Input → List ℕ
 six_in d (from_six x) = x
 six_in d _ = d
 
-module _ (lab : Lab) (is : IsTopology lab.topology) (E : List Full) (r : Full) (g : Grown lab (r ∷ E)) (j : ℕ) (q : RelayNode) where
-  pub given_six : (e : Entry) (y : List ℕ) → IsActOf lab E r j (relay q) e → e.input ≡ from_six y → IsRelays lab E j y
-  given_six e y act input =
+module _ {lab : Lab} (is : IsTopology lab.topology) {E : List Full} {r : Full} (g : Grown lab (r ∷ E)) (j : ℕ) (q : RelayNode) where
+  pub given_six : {e : Entry} (y : List ℕ) → IsActOf lab E r j (relay q) e → e.input ≡ from_six y → IsRelays lab E j y
+  given_six y act input =
       by act.dst act.input act.is_given (sym (ap (λ (z : Entry). z.input) act.step ∙ entry_input lab E r.moment j act.dst act.input (relay q)) ∙ input) where
         history : IsMadeHistory lab E
         history = wire_is_made lab E is g.1

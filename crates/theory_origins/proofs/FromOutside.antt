@@ -103,19 +103,19 @@ module _ (the : FromForeigner) where
   }
 
   -- no client sent it
-  of_client : (m : ℕ) (b : ClientNode) (e : Entry) (z : Send) → IsActOf lab E maker m (client b) e → Contains e.step.sends z → d.in_it.dst ≡ z.to
+  of_client : {m : ℕ} {b : ClientNode} {e : Entry} {z : Send} → IsActOf lab E maker m (client b) e → Contains e.step.sends z → d.in_it.dst ≡ z.to
       → bytes ≡ z.bytes → ⊥
-  of_client m b e z act held to same =
-      let journal_is = is_j latest m b e z act in
+  of_client {m} {b} {e} {z} act held to same =
+      let journal_is = is_j (record { l = latest; n = m; c = b; e = e; s = z; act = act }) in
       let sending = one_of _ e.step.sends z (each_send (client_settings lab.topology b) (journal m E) e journal_is) held in
-      let handed : HandedIn lab (maker ∷ E) m b (fields_in x).src x = of_sending latest m b e z act x (brings z to same) sending in
+      let handed : HandedIn lab (maker ∷ E) m b (fields_in x).src x = of_sending (record { l = latest; n = m; c = b; e = e; s = z; act = act }) (brings z to same) sending in
       false≢true (sym foreign ∙ own_is_teredo (client_settings lab.topology b) (journal m handed.earlier) (fields_in x).src handed.address)
 
   -- nor a server
-  of_server : (m : ℕ) (b : ServerNode) (e : Entry) (z : Send) → IsActOf lab E maker m (server b) e → Contains e.step.sends z → from ≡ own_ep (server b) z.side
+  of_server : {m : ℕ} {b : ServerNode} {e : Entry} {z : Send} → IsActOf lab E maker m (server b) e → Contains e.step.sends z → from ≡ own_ep (server b) z.side
       → bytes ≡ z.bytes → ⊥
   unfolding is_from_server
-  of_server m b e z act held src same = by (by_act (λ (f : Ep) (w : Send). IsServersOwn (server_settings b) w) latest b z
+  of_server {m} {b} {e} {z} act held src same = by (by_act (λ (f : Ep) (w : Send). IsServersOwn (server_settings b) w) latest b z
       (record { number = m; entry = e; act = act; sent = held })
       (λ side f y h. each_is_servers_own (server_settings b) side f y keeps.primary.made h.0 h.1)).1
     where
@@ -178,7 +178,7 @@ module _ (the : FromForeigner) where
             (subst (Grown lab) rec.split grown.1) in
             let its_row : rec.node ≡ relay q = ap (λ (o : Option _). unwrap_or o rec.node) (sym rec.act.there ∙ act.there) in
             let its_act : IsActOf lab rec.earlier rec.record_of j (relay q) w = subst (λ (b : _). IsActOf lab rec.earlier rec.record_of j b w) its_row rec.act in
-            let it = given_six lab is rec.earlier rec.record_of earlier_grown j q w y its_act came in
+            let it = given_six is earlier_grown j q y its_act came in
             record {
               packet = it.packet;
               of = subst (λ (t : List Full). IsOfNative lab t j y) (sym rec.split) (lasts lab rec.later (rec.record_of ∷ rec.earlier) j y
@@ -188,16 +188,16 @@ module _ (the : FromForeigner) where
         by : IsRelayPart s before e.input z → IsOfNative lab (maker ∷ E) j x
         by (tries p fits sends) =
             absurd (no_bubble s.six p z.bytes x (bubble_reads_back s.six p keeps.six fits) (ap (λ (w : Send). w.bytes) sends) (packet_in z same) plain)
-        by (goes_now to y input sends) = whole y (ap (λ (w : Send). w.bytes) sends) (given_six lab is E maker grown j q e y act input)
+        by (goes_now to y input sends) = whole y (ap (λ (w : Send). w.bytes) sends) (given_six is grown j q y act input)
         by (waited to y came sends) = whole y (ap (λ (w : Send). w.bytes) sends) (from_before y came)
 
   of_maker : MadeBy lab E maker datagram → IsFromOutside lab H k from x
   of_maker (from_nowhere src to ys forges same) =
       put one.later E maker one.makes (puts E src to from ys maker.asked forges (sym (ap (src_of from) same)))
-  of_maker (by_server m b e z act held same) = absurd (of_server m b e z act held (ap (src_of from) same) (ap (bytes_in bytes) same))
+  of_maker (by_server m b e z act held same) = absurd (of_server act held (ap (src_of from) same) (ap (bytes_in bytes) same))
   of_maker (by_relay j q e z act held same) =
       relayed one.later E maker one.makes j q act.node act.there (ap (src_of from) same) (of_relay j q e z act held (ap (bytes_in bytes) same))
-  of_maker (by_client m b e z src act held leaves same) = absurd (of_client m b e z act held (ap (dst_of d.in_it.dst) same) (ap (bytes_in bytes) same))
+  of_maker (by_client m b e z src act held leaves same) = absurd (of_client act held (ap (dst_of d.in_it.dst) same) (ap (bytes_in bytes) same))
   of_maker (by_native m h e ys act packet same) = absurd (false≢true (ap is_six same))
   of_maker (to_six m a e f ys span act input gives same) = absurd (false≢true (ap is_six same))
 
@@ -211,7 +211,7 @@ client_of lab r n c x (hands_late node there lates) = there
 
 pub each_has_outside_origin : EachHasOutsideOrigin
 each_has_outside_origin lab H r n c x is g reaches foreign =
-    let d = each_came_direct lab H r n c x g there reaches in
+    let d = each_came_direct H g there reaches in
     record {
       brought = record { number = d.in_it.number; from = d.in_it.from; dst = d.in_it.dst; bytes = d.in_it.bytes; brings = d.brings; datagram = d.datagram };
       sender = sender;
@@ -222,7 +222,7 @@ each_has_outside_origin lab H r n c x is g reaches foreign =
       here : CameDirect lab H r n c x → FromForeigner
       here d = record { lab = lab; is = is; H = H; r = r; g = g.1; n = n; c = c; there = there; x = x; d = d; foreign = foreign }
 
-      of_bringer : (b : IsBroughtBy H r n x) → CameWith lab H r g n c x there b.number → IsFromOutside lab H b.number b.from x
+      of_bringer : (b : IsBroughtBy H r n x) → CameWith (record { lab = lab; H = H; r = r; g = g; n = n; c = c; x = x; at = there }) b.number → IsFromOutside lab H b.number b.from x
       of_bringer b one =
           let d = one.came in
           let from : d.in_it.from ≡ b.from = ap (λ (o : Option Item). src_of b.from (unwrap_or o (udp b.from b.dst b.bytes)))
@@ -231,4 +231,4 @@ each_has_outside_origin lab H r n c x is g reaches foreign =
           (subst (λ (f : Ep). IsFromOutside lab H d.in_it.number f x) from (has_sender (here d)))
 
       sender : (b : IsBroughtBy H r n x) → IsFromOutside lab H b.number b.from x
-      sender b = of_bringer b (each_came_with lab H r g n c x there reaches b)
+      sender b = of_bringer b (each_came_with (record { lab = lab; H = H; r = r; g = g; n = n; c = c; x = x; at = there }) reaches b)

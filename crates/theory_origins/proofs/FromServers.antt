@@ -29,19 +29,19 @@ for_others s p ours other = by (is_teredo p.src) (is_for_client s p) ours other 
   by false true g h = absurd (false≢true (sym h))
   by false false g h = absurd (false≢true (sym g))
 
-of_send : (s : ServerSettings) (side : Side) (from : Ep) (x : List ℕ) (v : Value) (z : Send) → IsIp4 s.primary → IsEp from → IsBytes x
+of_send : {s : ServerSettings} {side : Side} {from : Ep} {x : List ℕ} {v : Value} {z : Send} → IsIp4 s.primary → IsEp from → IsBytes x
     → payload_at x ≡ Ok v → Told v → IsOutgoing s side from x v z → IsServersOwn s z
-of_send s side from x v z primary origin fits e t (adverts answered is) =
+of_send {s} {from} {v} {z} primary origin fits e t (adverts answered is) =
     let reads = advert_reads_back s from (nonce_of v.lead) v.packet.src (record { primary = primary; origin = origin; nonce_fits = t.nonce; address = t.source }) in
     let dst : (value_in z.bytes).packet.dst ≡ v.packet.src = ap (λ (w : Send). (value_in w.bytes).packet.dst) is
     ∙ ap (λ (w : Value). w.packet.dst) reads.payload.value in
     to_link (ap is_link_local dst ∙ from_link v.packet answered.solicitation)
-of_send s side from x v z primary origin fits e t (goes_to_own on is) =
+of_send {s} {from} {x} {v} {z} primary origin fits e t (goes_to_own on is) =
     let reads = forwarded_reads_back x v (Some from) fits e on.on.sound.short origin in
     let same : (value_in z.bytes).packet ≡ v.packet = ap (λ (w : Send). (value_in w.bytes).packet) is ∙ ap (λ (w : Value). w.packet) reads.value in
     let own = for_client s v.packet on.for_client in
     to_own (ap (λ (w : Send). w.side) is) (ap (λ (p : Fields). is_teredo p.dst) same ∙ own.teredo) (ap (λ (p : Fields). server_in p.dst) same ∙ own.server)
-of_send s side from x v z primary origin fits e t (goes_to_other on is) =
+of_send {s} {x} {v} {z} primary origin fits e t (goes_to_other on is) =
     let reads = forwarded_reads_back x v None fits e on.on.sound.short tt in
     let same : (value_in z.bytes).packet ≡ v.packet = ap (λ (w : Send). (value_in w.bytes).packet) is ∙ ap (λ (w : Value). w.packet) reads.value in
     from_teredo (ap (λ (p : Fields). is_teredo p.src) same ∙ for_others s v.packet on.on.ours on.for_others)
@@ -50,7 +50,7 @@ pub each_is_servers_own : (s : ServerSettings) (side : Side) (from : Ep) (x : Li
     → AllByRecursion (IsServersOwn s) (server_row s side from x).sends
 unfolding server_row
 each_is_servers_own s side from x primary origin fits =
-    of_read (IsServersOwn s) s side from x (λ v e z is. of_send s side from x v z primary origin fits e (told x v fits e) is)
+    of_read (IsServersOwn s) s side from x (λ v e z is. of_send primary origin fits e (told x v fits e) is)
     (payload_at x) refl
 
 -- A CLIENT'S OWN ADDRESS

@@ -22,9 +22,9 @@ module _ (lab : Lab) (past : List Full) (q : Full) (n : ℕ) (c : ClientNode) (x
   abbrev s : Settings
   s = client_settings lab.topology c
 
-  given_in : (from : Ep) (y : List ℕ) {dst : Ep} (i : Input) → IsGiven lab past q n (client c) dst i → i ≡ arrived from y
+  given_in : {from : Ep} {y : List ℕ} {dst : Ep} {i : Input} → IsGiven lab past q n (client c) dst i → i ≡ arrived from y
       → x ≡ drop (value_in y).lead.at y → IsCameDirect s (journal n past) from y → IsGivenIn lab past q n c x
-  given_in from y i (delivered number (udp src to bytes) told at goes moment where_to same) is whole came =
+  given_in {from} {y} (delivered number (udp src to bytes) told at goes moment where_to same) is whole came =
       let sources : src ≡ from = ap (from_of src) (sym same ∙ is) in
       let all : bytes ≡ y = ap bytes_of (sym same ∙ is) in
       record {
@@ -39,9 +39,9 @@ module _ (lab : Lab) (past : List Full) (q : Full) (n : ℕ) (c : ClientNode) (x
         packet = sym (same_fields y came.payload) ∙ ap fields_in (sym whole);
         came = came;
       }
-  given_in from y i (delivered number (six to bytes) told at goes moment where_to same) is whole came = absurd (false≢true (ap is_arrived (sym same ∙ is)))
-  given_in from y i (hosted v z handing none moment to same) is whole came = absurd (false≢true (ap is_arrived (sym same ∙ is)))
-  given_in from y i (ticks d due at none moment to same) is whole came = absurd (false≢true (ap is_arrived (sym same ∙ is)))
+  given_in (delivered number (six to bytes) told at goes moment where_to same) is whole came = absurd (false≢true (ap is_arrived (sym same ∙ is)))
+  given_in (hosted v z handing none moment to same) is whole came = absurd (false≢true (ap is_arrived (sym same ∙ is)))
+  given_in (ticks d due at none moment to same) is whole came = absurd (false≢true (ap is_arrived (sym same ∙ is)))
 
   -- the client's entry, of a datagram
   pub of_entry : Grown lab (q ∷ past) → {e : Entry} → IsActOf lab past q n (client c) e → (from : Ep) (y : List ℕ) → e.input ≡ arrived from y
@@ -52,4 +52,4 @@ module _ (lab : Lab) (past : List Full) (q : Full) (n : ℕ) (c : ClientNode) (x
       let came = came_direct s (journal n past) e is_j from y input rule in
       let same : act.input ≡ arrived from y = sym (ap (λ (z : Entry). z.input) act.step ∙ entry_input lab past q.moment n act.dst act.input (client c))
       ∙ input in
-      given_in from y act.input act.is_given same (whole is_j came) came
+      given_in act.is_given same (whole is_j came) came

@@ -4,10 +4,10 @@ use Rattle.qualify.specs.declared.phase.Phase.TheVariants.{Secondary}
 use Rattle.events.specs.declared.event.Event.TheVariants as event
 
 -- a forged source isn't its server's
-pub not_its : (t : TopologyState) (c : ClientNode) (H : List Full) (src dst : Ep) (bytes : List ℕ) (e : Event) → Forges H src dst bytes e
+pub not_its : (t : TopologyState) (c : ClientNode) (H : List Full) {src dst : Ep} {bytes : List ℕ} {e : Event} → Forges H src dst bytes e
     → is_honest_event_for t c e ≡ true → is_its_server t c src ≡ false
-not_its t c H src dst bytes _ strange h = not-true (is_its_server t c src) h
-not_its t c H src dst bytes _ (copied number x at is) h = not-true (is_its_server t c src) h
+not_its t c H {src} strange h = not-true (is_its_server t c src) h
+not_its t c H {src} (copied number x at is) h = not-true (is_its_server t c src) h
 
 -- the server has the addresses of these
 pub its_has : (t : TopologyState) (c : ClientNode) (src : Ep) (b : HasServer t c) → is_its_server t c src ≡ true

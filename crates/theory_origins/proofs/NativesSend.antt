@@ -42,9 +42,9 @@ module _ (l : Latest) where
     packet : is_packet z ≡ true
     own : (fields_in z).dst ≡ h.six
 
-  brought : (n : ℕ) (h : NativeNode) (there : node_at lab.topology n ≡ Some (native h)) (dst : _) (i : Input) → IsGiven lab H r n (native h) dst i
+  brought : {n : ℕ} {h : NativeNode} (there : node_at lab.topology n ≡ Some (native h)) {dst : _} {i : Input} → IsGiven lab H r n (native h) dst i
       → (z : List ℕ) → i ≡ from_six z → Brought h z
-  brought n h there dst i (delivered number y told at goes moment where_to came) z e = by y (sym came ∙ e) (routes lab H (now H) y n (native h) goes)
+  brought {n} {h} there (delivered number y told at goes moment where_to came) z e = by y (sym came ∙ e) (routes lab H (now H) y n (native h) goes)
       (all_at IsMadeItem (wire H) number y history.wire at)
       (all_at IsPacketItem (wire H) number y history.packets at) (all_at (NamesRelay lab.topology) (wire H) number y history.relays at)
     where
@@ -72,21 +72,21 @@ module _ (l : Latest) where
       by (six (Some k) bytes) f reached made packet names =
           absurd (false≢true (ap (λ (o : Option Node). is_some (option_and_then as_relay o)) (sym there)
           ∙ ap (λ (j : ℕ). is_some (relay_at lab.topology j)) reached ∙ names))
-  brought n h there dst i (hosted v y hands none moment where_to came) z e = absurd (false≢true (ap is_given (sym (sym came ∙ e))))
+  brought there (hosted v y hands none moment where_to came) z e = absurd (false≢true (ap is_given (sym (sym came ∙ e))))
     where
       is_given : Input → Bool
       is_given (given x) = true
       is_given _ = false
-  brought n h there dst i (ticks due least same none moment where_to came) z e = absurd (false≢true (ap is_tick (sym (sym came ∙ e))))
+  brought there (ticks due least same none moment where_to came) z e = absurd (false≢true (ap is_tick (sym (sym came ∙ e))))
     where
       is_tick : Input → Bool
       is_tick ticked = true
       is_tick _ = false
 
   -- what a native sends has its address as its source
-  pub native_source : (n : ℕ) (h : NativeNode) (e : Entry) (x : List ℕ) → IsActOf lab H r n (native h) e → native_packet h e.input ≡ Some x → IsBytes x
+  pub native_source : {n : ℕ} {h : NativeNode} {e : Entry} {x : List ℕ} → IsActOf lab H r n (native h) e → native_packet h e.input ≡ Some x → IsBytes x
       → is_packet x ≡ true → (fields_in x).src ≡ h.six
-  native_source n h e x act packet bytes one = by e.input packet (λ z f. brought n h act.there act.dst act.input act.is_given z (sym input_is ∙ f)) where
+  native_source {n} {h} {e} {x} act packet bytes one = by e.input packet (λ z f. brought act.there act.is_given z (sym input_is ∙ f)) where
     input_is : e.input ≡ act.input
     input_is = ap (λ (y : Entry). y.input) act.step ∙ entry_input lab H r.moment n act.dst act.input (native h)
 
@@ -101,7 +101,7 @@ module _ (l : Latest) where
     by ticked f came = absurd (false≢true (ap (λ (o : Option (List ℕ)). is_some o) f))
 
   -- so no native sends a packet with a Teredo source
-  pub not_native : (n : ℕ) (h : NativeNode) (e : Entry) (x : List ℕ) → IsActOf lab H r n (native h) e → native_packet h e.input ≡ Some x → IsBytes x
+  pub not_native : {n : ℕ} {h : NativeNode} {e : Entry} {x : List ℕ} → IsActOf lab H r n (native h) e → native_packet h e.input ≡ Some x → IsBytes x
       → is_packet x ≡ true → is_teredo (fields_in x).src ≡ true → ⊥
-  not_native n h e x act packet bytes one teredo = false≢true (sym (each_node lab.topology n (native h) l.is act.there).outside.other
-      ∙ ap is_teredo (sym (native_source n h e x act packet bytes one)) ∙ teredo)
+  not_native {n} {h} {e} {x} act packet bytes one teredo = false≢true (sym (each_node lab.topology n (native h) l.is act.there).outside.other
+      ∙ ap is_teredo (sym (native_source act packet bytes one)) ∙ teredo)

@@ -65,9 +65,9 @@ module _ (the : OnTheWay) where
   source_in (arrived from y) = Some from
   source_in _ = None
 
-  came_in : (n : ℕ) (a : Node) (dst : Ep) (i : Input) (from : Ep) (bytes : List ℕ) → IsGiven lab E maker n a dst i → i ≡ arrived from bytes
+  came_in : {n : ℕ} {a : Node} {dst : Ep} {i : Input} (from : Ep) (bytes : List ℕ) → IsGiven lab E maker n a dst i → i ≡ arrived from bytes
       → CameIn E maker from bytes
-  came_in n a dst i from bytes (delivered number y told there goes moment where_to came) e = by y (sym came ∙ e) there where
+  came_in {dst} {i} from bytes (delivered number y told there goes moment where_to came) e = by y (sym came ∙ e) there where
     by : (y : Item) → input_of y ≡ arrived from bytes → slice_get (wire E) number ≡ Some y → CameIn E maker from bytes
     by (udp src to z) f there =
         let bytes_are : z ≡ bytes = ap (λ (i : Input). unwrap_or (datagram_in i) bytes) f in
@@ -80,17 +80,17 @@ module _ (the : OnTheWay) where
               ∙ ap (λ (q : List ℕ). Some (udp from to q)) bytes_are;
         }
     by (six to z) f there = absurd (false≢true (ap (λ (i : Input). is_some (datagram_in i)) f))
-  came_in n a dst i from bytes (hosted v y hands none moment where_to came) e = absurd (false≢true (ap (λ (i : Input). is_some (datagram_in i)) (sym came ∙ e)))
-  came_in n a dst i from bytes (ticks due least same none moment where_to came) e =
+  came_in {i} from bytes (hosted v y hands none moment where_to came) e = absurd (false≢true (ap (λ (i : Input). is_some (datagram_in i)) (sym came ∙ e)))
+  came_in {i} from bytes (ticks due least same none moment where_to came) e =
       absurd (false≢true (ap (λ (i : Input). is_some (datagram_in i)) (sym came ∙ e)))
 
-  passed : (n : ℕ) (a : Node) (e : Entry) (from : Ep) (bytes : List ℕ) (span : Span) → IsActOf lab E maker n a e → e.input ≡ arrived from bytes
+  passed : {n : ℕ} {a : Node} {e : Entry} (from : Ep) (bytes : List ℕ) {span : Span} → IsActOf lab E maker n a e → e.input ≡ arrived from bytes
       → e.step.six ≡ Some span
       → x ≡ part bytes span → WasPassedOn lab H k (fields_in x).src x
-  passed n a e from bytes span act input gives x_is =
+  passed {n} {a} from bytes {span} act input gives x_is =
       let given_is : act.input ≡ arrived from bytes =
       sym (ap (λ (y : Entry). y.input) act.step ∙ entry_input lab E maker.moment n act.dst act.input a) ∙ input in
-      let came : CameIn E maker from bytes = came_in n a act.dst act.input from bytes act.is_given given_is in
+      let came : CameIn E maker from bytes = came_in from bytes act.is_given given_is in
       let step : (entry_of lab E maker.moment n act.dst (arrived from bytes) a).step.six ≡ Some span =
       ap (λ (i : Input). (entry_of lab E maker.moment n act.dst i a).step.six) (sym given_is) ∙ ap (λ (y : Entry). y.step.six) (sym act.step) ∙ gives in
       let did : GivesPacket a from bytes span = gives_packet lab E maker.moment n act.dst from bytes a span step in
@@ -143,8 +143,8 @@ module _ (the : OnTheWay) where
   of_maker (by_client n c f s src act sends leaves e) = absurd (false≢true (sym (ap is_six e)))
   of_maker (by_native n h f bytes act packet e) =
       let same : x ≡ bytes = ap bytes_six e in
-      absurd (not_native (record { lab = lab; before = E; full = maker; is = is; grown = grown }) n h f x act (packet ∙ ap (λ (y : List ℕ). Some y) (sym same)) bytes_of packet_of teredo)
-  of_maker (to_six n a f from bytes span act input gives e) = passed n a f from bytes span act input gives (ap bytes_six e)
+      absurd (not_native (record { lab = lab; before = E; full = maker; is = is; grown = grown }) act (packet ∙ ap (λ (y : List ℕ). Some y) (sym same)) bytes_of packet_of teredo)
+  of_maker (to_six n a f from bytes span act input gives e) = passed from bytes act input gives (ap bytes_six e)
 
   passed_on : WasPassedOn lab H k (fields_in x).src x
   passed_on = of_maker (all_at (MadeBy lab E maker) (items_of maker) (k - length (wire E)) (six None x) (items_are_made lab E maker grown) (one.item ∙ at))

@@ -95,14 +95,14 @@ module _ (the : Carrier) where
         (asks_as_cone (qualification own before) (qualification own (with_entry before e)).phase) nonce in
         absurd (false≢true (sym none ∙ ap (λ (z : List ℕ). is_teredo (value_in z).packet.src) (sym (same ∙ ap (λ (z : Send). z.bytes) f)) ∙ teredo_in))
     of_sending (bubbles mine q to has of goes f) =
-        let from_is : IsIp6 mine = subst (λ (o : Option Ip6). IfSome o IsIp6) has (its latest n b e s act).address in
-        let to_is : IsIp6 q = subst (λ (o : Option Ip6). IfSome o IsIp6) of (its latest n b e s act).peer in
+        let from_is : IsIp6 mine = subst (λ (o : Option Ip6). IfSome o IsIp6) has (its (record { l = latest; n = n; c = b; e = e; s = s; act = act })).address in
+        let to_is : IsIp6 q = subst (λ (o : Option Ip6). IfSome o IsIp6) of (its (record { l = latest; n = n; c = b; e = e; s = s; act = act })).peer in
         let bytes_are : bytes ≡ bubble_bytes mine q = same ∙ ap (λ (z : Send). z.bytes) f in
         let value : value_in bytes ≡ value_written None None (bubble_of mine q) = ap value_in bytes_are ∙ (bubble_reads_back mine q from_is to_is).payload.value in
         its_own (bubble_of mine q) value has (λ x_bytes. its_bubble (x_bytes ∙ bytes_are))
     of_sending (tests mine q nonce has of f) =
-        let from_is : IsIp6 mine = subst (λ (o : Option Ip6). IfSome o IsIp6) has (its latest n b e s act).address in
-        let to_is : IsIp6 q = subst (λ (o : Option Ip6). IfSome o IsIp6) of (its latest n b e s act).peer in
+        let from_is : IsIp6 mine = subst (λ (o : Option Ip6). IfSome o IsIp6) has (its (record { l = latest; n = n; c = b; e = e; s = s; act = act })).address in
+        let to_is : IsIp6 q = subst (λ (o : Option Ip6). IfSome o IsIp6) of (its (record { l = latest; n = n; c = b; e = e; s = s; act = act })).peer in
         let bytes_are : bytes ≡ test_bytes mine q nonce = same ∙ ap (λ (z : Send). z.bytes) f in
         let v : Fields = message_packet BUBBLE_HOP mine q (echo_request TEST_ID TEST_SEQ (big_bytes 8 nonce)) in
         let carries_it = message_is_carried BUBBLE_HOP mine q (echo_request TEST_ID TEST_SEQ (big_bytes 8 nonce))
@@ -117,14 +117,14 @@ module _ (the : Carrier) where
         let x_is_y : x ≡ y = all_of bytes x span (fields_in bytes) value x_is whole ∙ bytes_are in
         let handed : HandedIn lab (one.maker ∷ one.earlier) n b p x = subst (λ (z : List ℕ). HandedIn lab (one.maker ∷ one.earlier) n b (fields_in z).src z)
         (sym x_is_y)
-        (carried latest n b e s act to y (fields_in y).src goes of refl) in
+        (carried (record { l = latest; n = n; c = b; e = e; s = s; act = act }) {p = (fields_in y).src} goes of refl) in
         handed_in (origin.sent_by one.later one.earlier one.maker one.makes n b there act.node dst bytes
         (at ∙ ap (λ (z : Ep). Some (udp z dst bytes)) embeds) external_is handed)
 
   of_maker : IsForgedOrClients lab one.earlier one.maker from dst bytes → IsFromSource lab E k p x
   of_maker (forged f) = handed_in (origin.put one.later one.earlier one.maker one.makes (puts one.earlier from dst (embedded p) bytes one.maker.asked f embeds))
   of_maker (sent_by n b e s act held leaves to same) =
-      let journal_is = is_j latest n b e s act in
+      let journal_is = is_j (record { l = latest; n = n; c = b; e = e; s = s; act = act }) in
       let sending = one_of _ e.step.sends s (each_send (client_settings lab.topology b) (journal n one.earlier) e journal_is) held in
       of_sending n b e s act same (leaves_at lab one.earlier one.maker.moment b s.to from leaves) sending
 

@@ -62,7 +62,7 @@ module _ (l : Latest) (c : ClientNode) (its : HasServer l.lab.topology c) where
 
   tells : (x : Item) → is_honest_event_for l.lab.topology c l.full.asked ≡ true → MadeBy l.lab l.before l.full x → Tells x
   tells x honest (from_nowhere src dst bytes forges same) = subst Tells (sym same) (λ is auth.
-      absurd (false≢true (sym (not_its l.lab.topology c l.before src dst bytes l.full.asked forges honest) ∙ is)))
+      absurd (false≢true (sym (not_its l.lab.topology c l.before forges honest) ∙ is)))
   tells x honest (by_server k b e s act d same) = subst Tells (sym same) (λ is auth.
       let keeps : IsServerNode b = each_node l.lab.topology k (server b) l.is act.there in
       let one = by_act (λ from z. server_laws.TellsWhereTo z) l b s (record { number = k; entry = e; act = act; sent = d })

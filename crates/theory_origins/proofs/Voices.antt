@@ -18,20 +18,31 @@ row_of : ServerNode → Node → ServerNode
 row_of d (server a) = a
 row_of d _ = d
 
-module _ (lab : Lab) (H : List Full) (r : Full) (is : IsTopology lab.topology) (n : ℕ) (a : ServerNode)
-    (there : node_at lab.topology n ≡ Some (server a)) (quiet : speaks_for a r.asked ≡ false) where
+-- a server for which nobody speaks in the latest record
+record QuietServer (a : ServerNode) : Type 0 where
+  lab : Lab
+  H : List Full
+  r : Full
+  is : IsTopology lab.topology
+  n : ℕ
+  there : node_at lab.topology n ≡ Some (server a)
+  quiet : speaks_for a r.asked ≡ false
+
+module _ {a : ServerNode} (quiet_server : QuietServer a) where
+  open quiet_server use {lab, H, r, is, n, there, quiet}
+
   has_it : (src : Ep) → is_at src (server a) ≡ true → Has lab.topology n src.ip
   has_it src at = record { node = server a; at = there; has = address_of a src at }
 
-  forged : (e : Event) (src dst : Ep) (bytes : List ℕ) → Forges H src dst bytes e → is_at src (server a) ≡ speaks_for a e
-  forged _ src dst bytes strange = refl
-  forged _ src dst bytes (copied number y at same) = refl
+  forged : {e : Event} {src dst : Ep} {bytes : List ℕ} → Forges H src dst bytes e → is_at src (server a) ≡ speaks_for a e
+  forged strange = refl
+  forged (copied number y at same) = refl
 
   own : (x : Item) → MadeBy lab H r x → is_sent_by a x ≡ true → IsOwnSend lab H r n a x
   unfolding row_of has_it is_server
   own x (from_nowhere src dst bytes forges e) of =
       let at : is_at src (server a) ≡ true = sym (ap (is_sent_by a) e) ∙ of in
-      absurd (false≢true (sym quiet ∙ sym (forged r.asked src dst bytes forges) ∙ at))
+      absurd (false≢true (sym quiet ∙ sym (forged forges) ∙ at))
   own x (by_server k b e s act c same) of =
       let at : is_at (own_ep (server b) s.side) (server a) ≡ true = sym (ap (is_sent_by a) same) ∙ of in
       let one = same_node lab.topology k n (own_ep (server b) s.side).ip is
@@ -53,4 +64,4 @@ module _ (lab : Lab) (H : List Full) (r : Full) (is : IsTopology lab.topology) (
 
 pub each_server_has_own_voice : EachServerHasOwnVoice
 each_server_has_own_voice lab H r n a is g there quiet =
-    all_map (MadeBy lab H r) (IsOwnIfSent lab H r n a) (items_of r) (own lab H r is n a there quiet) (items_are_made lab H r g)
+    all_map (MadeBy lab H r) (IsOwnIfSent lab H r n a) (items_of r) (own (record { lab = lab; H = H; r = r; is = is; n = n; there = there; quiet = quiet })) (items_are_made lab H r g)

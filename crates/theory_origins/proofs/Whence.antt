@@ -14,9 +14,22 @@ pub puts : (H : List Full) (src dst from : Ep) (bytes : List ℕ) (e : Event) �
 puts H src dst from bytes _ strange same = same
 puts H src dst from bytes _ (copied number x at of) same = same
 
+-- a packet that came from the endpoint that its source embeds
+pub record CameEmbedded : Type 0 where
+  pub lab : Lab
+  pub H : List Full
+  pub r : Full
+  pub c : ClientNode
+  pub x : List ℕ
+  pub is : IsTopology lab.topology
+  pub g : Grown lab (r ∷ H)
+  pub came : IsBrought lab H r c x
+  pub embeds : came.src ≡ embedded (fields_in x).src
+
 -- a packet that a datagram brought, which came from the endpoint that the packet's source embeds
-module _ (lab : Lab) (H : List Full) (r : Full) (c : ClientNode) (x : List ℕ) (is : IsTopology lab.topology)
-    (g : Grown lab (r ∷ H)) (came : IsBrought lab H r c x) (embeds : came.src ≡ embedded (fields_in x).src) where
+module _ (came_embedded : CameEmbedded) where
+  open came_embedded use {lab, H, c, x, is, g, came, embeds}
+
   abbrev datagram : Item
   datagram = udp came.src came.dst came.bytes
 
@@ -51,9 +64,9 @@ module _ (lab : Lab) (H : List Full) (r : Full) (c : ClientNode) (x : List ℕ) 
       origin.put one.later one.earlier one.maker one.makes (puts one.earlier came.src came.dst (embedded (fields_in x).src) came.bytes one.maker.asked f embeds)
   of_client (sent_by n b e s act held leaves to same) =
       let latest : Latest = record { lab = lab; before = one.earlier; full = one.maker; is = is; grown = grown } in
-      let journal_is = is_j latest n b e s act in
+      let journal_is = is_j (record { l = latest; n = n; c = b; e = e; s = s; act = act }) in
       let sending = one_of _ e.step.sends s (each_send (client_settings lab.topology b) (journal n one.earlier) e journal_is) held in
-      let handed = of_sending latest n b e s act x (brings s to same) sending in
+      let handed = of_sending (record { l = latest; n = n; c = b; e = e; s = s; act = act }) (brings s to same) sending in
       origin.sent_by one.later one.earlier one.maker one.makes n b (as_client_at lab.topology n b act.there) act.node came.dst came.bytes
       (came.datagram ∙ ap (λ (z : Ep). Some (udp z came.dst came.bytes)) embeds)
       (ap (λ (z : Ep). z.ip) (sym embeds) ∙ leaves_at lab one.earlier one.maker.moment b s.to came.src leaves) handed
@@ -71,4 +84,4 @@ each_has_origin lab H r n c x is g o teredo k delivered =
     let embeds : came.src ≡ embedded (fields_in x).src = came.embeds teredo in
     let number : came.number ≡ k = ap (λ (z : Option ℕ). unwrap_or z k) (sym came.delivered ∙ delivered) in
     subst (λ (j : ℕ). HasOrigin lab H j (fields_in x).src x) number
-    (of_client lab H r c x is g came embeds (comes lab H r c x is g came embeds teredo))
+    (of_client (record { lab = lab; H = H; r = r; c = c; x = x; is = is; g = g; came = came; embeds = embeds }) (comes (record { lab = lab; H = H; r = r; c = c; x = x; is = is; g = g; came = came; embeds = embeds }) teredo))

@@ -4,6 +4,7 @@ use Rattle.std.specs.List.{AllByRecursion}
 use Rattle.teredo_addr.specs.Teredo.{embedded}
 use Rattle.rand_chacha.specs.Block.{block_word}
 use Rattle.topology.specs.declared.client_node.ClientNode.{ClientNode}
+use Rattle.topology.specs.Rules.{IsTopology}
 use Rattle.topology.specs.Topology.{client_at}
 use Rattle.events.specs.declared.event.Event.{Event}
 use Rattle.events.specs.Events.{IsEvent}
@@ -28,6 +29,8 @@ use Rattle.theory_answers.proofs.LawProofs.{histories_tell_at_once}
 use Rattle.theory_first_packets.specs.AlongWays.{CarriesAlong}
 use Rattle.theory_first_packets.proofs.LawProofs.{histories_carry_along}
 use Rattle.theory_first_natives.specs.Throughout.{CarriesFromNatives, CarriesToNatives}
+use Rattle.theory_loads.proofs.LawProofs.{arrivals_are_handed, carries_packets}
+use Rattle.theory_ends.proofs.LawProofs.{arrived_is_first, lost_stays_lost}
 use Rattle.theory_first_natives.proofs.LawProofs.{histories_carry_from_natives, histories_carry_to_natives}
 use Rattle.theory_promises.specs.Kept.{
   IsFlat,
@@ -42,6 +45,7 @@ use Rattle.theory_promises.specs.Kept.{
   FirstPacketTakesACourse,
   FirstFromNativeIsCarried,
   FirstToNativeIsCarried,
+  ArrivalsAreHanded,
   HistoriesAreKept,
   ScenariosAreKept,
 }
@@ -95,9 +99,19 @@ carried_to_native : (lab : Lab) (H : List Full) → (IsChained lab → CarriesTo
     → FirstToNativeIsCarried lab before
 carried_to_native lab H have rest before split chained later r earlier ends = have chained rest later r earlier (within rest before split ends)
 
+-- the history before some records has grown too
+grown_before : (lab : Lab) (later before : List Full) → Grown lab (later ++ before) → Grown lab before
+grown_before lab [] before g = g
+grown_before lab (r ∷ later) before g = grown_before lab later before g.1
+
+handed : (lab : Lab) → IsTopology lab.topology → (before : List Full) → Grown lab before → ArrivalsAreHanded lab before
+handed lab is [] g = tt
+handed lab is (r ∷ before) g = λ s said arrives. arrivals_are_handed lab before r s is g said arrives
+
 pub histories : HistoriesAreKept
 histories lab H is g later before split =
     let have = histories_have_origins lab H is g in
+    let grown_so_far = grown_before lab later before (subst (Grown lab) split g) in
     record {
       origins = told lab H have later before split;
       held = held lab H have later before split;
@@ -110,6 +124,10 @@ histories lab H is g later before split =
       course = taken lab H (λ chained. histories_carry_along lab H is chained g) later before split;
       from_native = native_carried lab H (λ chained. histories_carry_from_natives lab H is chained g) later before split;
       to_native = carried_to_native lab H (λ chained. histories_carry_to_natives lab H is chained g) later before split;
+      packets = carries_packets lab before is grown_so_far;
+      handed = handed lab is before grown_so_far;
+      lost = λ later earlier ends l j end. lost_stays_lost lab earlier later l j (subst (Grown lab) ends grown_so_far) end;
+      arrived = arrived_is_first lab.topology before;
     }
 
 -- a word of a scenario's has 32 bits: it is a sum that drops its carry

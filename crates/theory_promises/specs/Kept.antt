@@ -1,7 +1,7 @@
 -- What is proved of every history of a laboratory, whichever NATs are behind others, as one record: it is what a run says of the
 -- history that it played. What clients make of their NATs and what becomes of first packets is said along ways, where the chain
 -- keeps its rules; their addresses and verdicts once more where no NAT is behind another one.
-use Rattle.std.specs.Prelude.{◌≡◌, ◌⊎◌, ℕ, true, List, [], ◌∷◌, ◌++◌, Some}
+use Rattle.std.specs.Prelude.{◌≡◌, ◌⊎◌, ℕ, true, List, [], ◌∷◌, ◌++◌, Some, Contains}
 use Rattle.std.specs.List.{AllByRecursion}
 use Rattle.td_base.specs.declared.ipv6.Ip6.{Ip6}
 use Rattle.teredo_addr.specs.Teredo.{embedded}
@@ -27,6 +27,16 @@ use Rattle.theory_storms.specs.NineThroughout.{NineFollowEach}
 use Rattle.theory_first_packets.specs.AlongWays.{FirstPacketArrivesAlong, TakesACourseAlong}
 use Rattle.theory_first_natives.specs.FromNative.{FirstFromNativeArrivesAlong}
 use Rattle.theory_first_natives.specs.ToNative.{FirstToNativeArrivesAlong}
+use Rattle.loads.specs.declared.load.Load.{Load}
+use Rattle.loads.specs.declared.end.End.TheVariants.{Arrived, Lost}
+use Rattle.loads.specs.declared.saying.Saying.{Saying}
+use Rattle.loads.specs.declared.way.Way.TheVariants.{Arrives}
+use Rattle.loads.specs.Loads.{loads}
+use Rattle.loads.specs.Sayings.{sayings_of}
+use Rattle.theory_loads.specs.Carried.{CarriesPackets}
+use Rattle.theory_loads.specs.Arrivals.{IsHandedOut}
+use Rattle.theory_ends.specs.LostStays.{NoneDelivers, StaysLost, end_after}
+use Rattle.theory_ends.specs.FirstArrival.{IsFirstArrival}
 
 -- no NAT is behind another one
 abbrev pub IsFlat : Lab → Type 0
@@ -90,6 +100,20 @@ abbrev pub FirstToNativeIsCarried : Lab → List Full → Type 0
 FirstToNativeIsCarried lab H = IsChained lab → (later : List Full) (r : Full) (before : List Full) → H ≡ later ++ r ∷ before
     → FirstToNativeArrivesAlong lab before r later
 
+-- where the latest record says that a packet arrives, or a reply, a host gets its bytes
+abbrev pub ArrivalsAreHanded : Lab → List Full → Type 0
+ArrivalsAreHanded lab [] = Unit {0}
+ArrivalsAreHanded lab (r ∷ H) = (s : Saying) → Contains (sayings_of lab.topology H (loads lab.topology H) r) s → s.way ≡ Arrives → IsHandedOut lab H r s.load
+
+-- a packet that was lost after earlier records, or a reply that was, stays so until an entry that carries it is delivered again
+abbrev pub LostOnesStayLost : Lab → List Full → Type 0
+LostOnesStayLost lab H = (later before : List Full) → H ≡ later ++ before → (l : Load) (j : ℕ) → end_after lab.topology before l ≡ Some (Lost j)
+    → NoneDelivers lab.topology before later l → StaysLost lab.topology before later l j
+
+-- the record that the end of a packet names, or that of a reply, was the first by which it arrived
+abbrev pub ArrivalsAreFirst : Lab → List Full → Type 0
+ArrivalsAreFirst lab H = (l : Load) (j : ℕ) → end_after lab.topology H l ≡ Some (Arrived j) → IsFirstArrival lab.topology H l j
+
 -- *kept*: of a history: each theorem on histories is so of its latest record, along ways where it is chained, of one
 -- NAT where none is behind another; throughout: of each.
 -- of a history, at its latest record
@@ -105,6 +129,10 @@ pub record Kept (lab : Lab) (H : List Full) : Type 0 where
   pub course : FirstPacketTakesACourse lab H
   pub from_native : FirstFromNativeIsCarried lab H
   pub to_native : FirstToNativeIsCarried lab H
+  pub packets : CarriesPackets lab H
+  pub handed : ArrivalsAreHanded lab H
+  pub lost : LostOnesStayLost lab H
+  pub arrived : ArrivalsAreFirst lab H
 
 -- at each of its records
 abbrev pub KeptThroughout : Lab → List Full → Type 0

@@ -14,11 +14,15 @@ ghost use Rattle.theory_promises.specs.Kept.{HistoriesAreKept, ScenariosAreKept}
 /// that is honest for the client. Where the chain keeps its rules: `first_packet`: where the latest records are a fresh
 /// schedule after a first packet, they carry it; `course`: and where it is complete, their fates are one of the
 /// courses; `from_native`: where they are one after the first packet of a native host to a client, they carry this;
-/// `to_native`: and so after the first packet of a client to a native host. It is stated in `Kept.antt`, in the words
-/// of `theory_origins/Throughout.antt`, `theory_origins/Live.antt`, `theory_ways/Throughout.antt`,
+/// `to_native`: and so after the first packet of a client to a native host. Of each packet of a host, and of its reply:
+/// `packets`: what carries it, waits or is held with it has its bytes; `handed`: by a record that says that it arrives
+/// a host gets them; `lost`: if it is lost it stays so, until an entry that carries it is delivered again; `arrived`:
+/// the record by which it arrived is the first that says so. It is stated in `Kept.antt`, in the words of
+/// `theory_origins/Throughout.antt`, `theory_origins/Live.antt`, `theory_ways/Throughout.antt`,
 /// `theory_answers/Throughout.antt`, `theory_verdicts/Throughout.antt`, `theory_storms/Throughout.antt`,
-/// `theory_storms/NineThroughout.antt`, `theory_first_packets/AlongWays.antt`, `theory_first_natives/FromNative.antt`
-/// and `theory_first_natives/ToNative.antt`.
+/// `theory_storms/NineThroughout.antt`, `theory_first_packets/AlongWays.antt`, `theory_first_natives/FromNative.antt`,
+/// `theory_first_natives/ToNative.antt`, `theory_loads/Carried.antt`, `theory_loads/Arrivals.antt`,
+/// `theory_ends/LostStays.antt` and `theory_ends/FirstArrival.antt`.
 /// Needs: a history of a topology that keeps its rules.
 /// Leaves open: who speaks for a relay; who else had the address, or gets it later.
 pub fn kept()

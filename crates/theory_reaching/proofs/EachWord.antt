@@ -84,7 +84,7 @@ module _ (the : FreshSchedule) where
   -- of two clients alone: neither table of a native host has such a word
   of_two : (said : Reach) → ((a : Relayed) → to_native_row a ≡ said → ⊥) → ((a : Relayed) → from_native_row a ≡ said → ⊥) → KeepsBetweenClientsIn lab H said
       → (a b : Node) → reach_of lab H n m ≡ Some said → Promised said a b
-  of_two said no_out no_back keeps a b word_is at to = by (said_by lab H n m said a b at to word_is) at to where
+  of_two said no_out no_back keeps a b word_is at to = by (said_by (record { lab = lab; H = H; n = n; m = m; said = said }) a b at to word_is) at to where
     by : SaidBy lab H n m a b said → Promised said a b
     by (between_clients c d f g w) =
         moved said a b (client c) (client d) f g (λ here there sent. keeps q later n m c d x grown here there word_is sent fresh)
@@ -94,7 +94,7 @@ module _ (the : FreshSchedule) where
   -- of two clients, and of a client on a native host
   not_back : (said : Reach) → ((a : Relayed) → from_native_row a ≡ said → ⊥) → KeepsBetweenClientsIn lab H said → KeepsToNativesIn lab H said
       → (a b : Node) → reach_of lab H n m ≡ Some said → Promised said a b
-  not_back said no_back keeps out a b word_is at to = by (said_by lab H n m said a b at to word_is) at to where
+  not_back said no_back keeps out a b word_is at to = by (said_by (record { lab = lab; H = H; n = n; m = m; said = said }) a b at to word_is) at to where
     by : SaidBy lab H n m a b said → Promised said a b
     by (between_clients c d f g w) =
         moved said a b (client c) (client d) f g (λ here there sent. keeps q later n m c d x grown here there word_is sent fresh)
@@ -104,7 +104,7 @@ module _ (the : FreshSchedule) where
 
   -- of each table
   shut : (said : Reach) → Apart lab H said → (a b : Node) → reach_of lab H n m ≡ Some said → Promised said a b
-  shut said keeps a b word_is at to = by (said_by lab H n m said a b at to word_is) at to where
+  shut said keeps a b word_is at to = by (said_by (record { lab = lab; H = H; n = n; m = m; said = said }) a b at to word_is) at to where
     by : SaidBy lab H n m a b said → Promised said a b
     by (between_clients c d f g w) =
         moved said a b (client c) (client d) f g (λ here there sent. keeps.between q later n m c d x grown here there word_is sent fresh)

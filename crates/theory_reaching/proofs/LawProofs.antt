@@ -1,10 +1,11 @@
 -- The laws of this crate, each under the name of its call: crates above cite them from here.
-use Rattle.theory_reaching.proofs.Words.{ClientKeptBack, GoneElsewhere, KeepsBetweenClients, KeepsItsPromise, KeepsToNatives, MovedBetweenClients, MovedTests, MovedToNatives, WordsAreKept, is_none, journal, known, mentions, now}
+use Rattle.theory_reaching.proofs.Words.{ClientKeptBack, GoneElsewhere, KeepsBetweenClients, KeepsItsPromise, KeepsToNatives, MovedBetweenClients, MovedBubbles, MovedTests, MovedToNatives, WordsAreKept, is_none, journal, known, mentions, now}
 use Rattle.theory_reaching.specs.declared.word.Reach.TheVariants as word
 use Rattle.theory_reaching.proofs.EachWord.{words_kept}
 use Rattle.theory_reaching.proofs.Tests.{failed}
 use Rattle.theory_reaching.proofs.clients.PastWaiting.{seven_is_kept, eight_is_kept, ten_is_kept, eleven_is_kept, twelve_is_kept, thirteen_is_kept}
 use Rattle.theory_reaching.proofs.waiting.ClientAdds as client_adds
+use Rattle.theory_reaching.proofs.strays.MovedBubbles.{of_bubbling}
 use Rattle.theory_reaching.proofs.strays.MovedTest.{of_tests}
 use Rattle.theory_reaching.proofs.strays.MovedWords.{between_clients, to_natives, to_nobody}
 pub use Rattle.theory_reaching.proofs.no_address.AwayForAll.{away_brings_nothing}
@@ -28,8 +29,8 @@ pub use Rattle.theory_reaching.proofs.clients.WithinBounds.{five_is_kept as with
 pub use Rattle.theory_reaching.proofs.clients.WithinOne.{one_is_kept as within_one_is_kept}
 pub use Rattle.theory_reaching.proofs.relays.WithinTwo.{two_is_kept as within_two_is_kept}
 
-pub moved_straight_is_kept : MovedBetweenClients × MovedToNatives × GoneElsewhere × MovedTests
-moved_straight_is_kept = (between_clients, to_natives, to_nobody, of_tests)
+pub moved_straight_is_kept : MovedBetweenClients × MovedToNatives × GoneElsewhere × MovedTests × MovedBubbles
+moved_straight_is_kept = (between_clients, to_natives, to_nobody, of_tests, of_bubbling)
 
 -- where the latest event is over
 pub client_kept_back : ClientKeptBack

@@ -1,5 +1,5 @@
 -- A packet that a host hands in, with all that follows it.
-use Rattle.theory_reaching.proofs.Words.{AreFresh, Full, Grown, IsChained, IsOver, IsSentNext, IsTopology, Lab, List, Node, Some, address_at, ap, host_hands, node_at, subst, ℕ, ◌++◌, ◌∙◌, ◌∷◌, ◌≡◌}
+use Rattle.theory_reaching.proofs.Words.{AreFresh, Full, Grown, IsChained, IsOver, IsSentNext, IsTopology, Lab, List, Node, Some, ap, host_hands, node_at, subst, ℕ, ◌++◌, ◌∙◌, ◌∷◌, ◌≡◌}
 use Rattle.theory_settled.proofs.Earlier.{earlier}
 use Rattle.theory_reaching.proofs.waiting.OverEvents.{IsWhole, not_handing, over_before}
 
@@ -24,7 +24,7 @@ pub record NextPacket (a b : Node) : Type 0 where
 pub over : {a b : Node} (the : NextPacket a b) → IsOver the.H
 over {a} the =
     let follows = (earlier the.lab the.later (the.q ∷ the.H) the.g).0 in
-    let taken = host_hands the.lab the.H the.q the.n a (address_at the.lab the.H the.n) (address_at the.lab the.H the.m) the.x the.at follows
+    let taken = host_hands the.H the.at follows
     the.sent.handed in
     over_before the.H the.q.asked follows.goes_on (not_handing the.lab the.H the.q.asked taken.verb the.n the.x taken.hands)
 

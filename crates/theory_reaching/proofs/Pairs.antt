@@ -9,7 +9,17 @@ pub data SaidBy (lab : Lab) (H : List Full) (n m : ℕ) (a b : Node) (said : Rea
   from_native : (h : NativeNode) (c : ClientNode) (r : RelayNode) → a ≡ native h → b ≡ client c → relay_at lab.topology h.relay ≡ Some r
       → from_native_row (relayed lab H m c h r) ≡ said → SaidBy lab H n m a b said
 
-module _ (lab : Lab) (H : List Full) (n m : ℕ) (said : Reach) where
+-- a word on two hosts after a history
+pub record SaidOfPair : Type 0 where
+  pub lab : Lab
+  pub H : List Full
+  pub n : ℕ
+  pub m : ℕ
+  pub said : Reach
+
+module _ (said_of_pair : SaidOfPair) where
+  open said_of_pair use {lab, H, n, m, said}
+
   nobody : {A : Type 0} → None ≡ Some said → A
   nobody e = absurd (false≢true (ap (λ (o : Option Reach). is_some o) e))
 
@@ -86,11 +96,13 @@ native_or h _ = h
 pub native_is : {h g : NativeNode} → native h ≡ native g → h ≡ g
 native_is {h} e = ap (native_or h) e
 
-module _ (lab : Lab) (H : List Full) (n m : ℕ) (said : Reach) where
+module _ (said_of_pair : SaidOfPair) where
+  open said_of_pair use {lab, H, n, m, said}
+
   -- a word on two clients says this of what is seen of them, where each row with the word does
   pub of_clients : (P : TwoClients → Type 0) → ((a : TwoClients) → between_clients_row a ≡ said → P a) → (c d : ClientNode)
       → node_at lab.topology n ≡ Some (client c) → node_at lab.topology m ≡ Some (client d) → reach_of lab H n m ≡ Some said → P (two_clients lab H n m c d)
-  of_clients P says c d at to e = by (said_by lab H n m said (client c) (client d) at to e) where
+  of_clients P says c d at to e = by (said_by said_of_pair (client c) (client d) at to e) where
     by : SaidBy lab H n m (client c) (client d) said → P (two_clients lab H n m c d)
     by (between_clients a b same other w) =
         subst (λ (z : ClientNode). P (two_clients lab H n m z d)) (sym (client_is same))
@@ -102,7 +114,7 @@ module _ (lab : Lab) (H : List Full) (n m : ℕ) (said : Reach) where
   pub of_client_and_native : (P : Relayed → Type 0) → ((a : Relayed) → to_native_row a ≡ said → P a) → (c : ClientNode) (h : NativeNode)
       → node_at lab.topology n ≡ Some (client c) → node_at lab.topology m ≡ Some (native h) → reach_of lab H n m ≡ Some said
       → (r : RelayNode) × (relay_at lab.topology h.relay ≡ Some r) × P (relayed lab H n c h r)
-  of_client_and_native P says c h at to e = by (said_by lab H n m said (client c) (native h) at to e) where
+  of_client_and_native P says c h at to e = by (said_by said_of_pair (client c) (native h) at to e) where
     by : SaidBy lab H n m (client c) (native h) said → (r : RelayNode) × (relay_at lab.topology h.relay ≡ Some r) × P (relayed lab H n c h r)
     by (between_clients a b same other w) = absurd (no_client other)
     by (from_native a b r same other through w) = absurd (no_native same)
@@ -117,7 +129,7 @@ module _ (lab : Lab) (H : List Full) (n m : ℕ) (said : Reach) where
   pub of_native_and_client : (P : Relayed → Type 0) → ((a : Relayed) → from_native_row a ≡ said → P a) → (h : NativeNode) (c : ClientNode)
       → node_at lab.topology n ≡ Some (native h) → node_at lab.topology m ≡ Some (client c) → reach_of lab H n m ≡ Some said
       → (r : RelayNode) × (relay_at lab.topology h.relay ≡ Some r) × P (relayed lab H m c h r)
-  of_native_and_client P says h c at to e = by (said_by lab H n m said (native h) (client c) at to e) where
+  of_native_and_client P says h c at to e = by (said_by said_of_pair (native h) (client c) at to e) where
     by : SaidBy lab H n m (native h) (client c) said → (r : RelayNode) × (relay_at lab.topology h.relay ≡ Some r) × P (relayed lab H m c h r)
     by (between_clients a b same other w) = absurd (no_client same)
     by (to_native a b r same other through w) = absurd (no_client same)

@@ -22,7 +22,7 @@ pub use Rattle.td_base.specs.declared.ipv6.Ip6.{Ip6}
 pub use Rattle.td_base.specs.declared.reach.Policy.{Policy}
 pub use Rattle.td_base.specs.declared.reach.Policy.TheVariants.{Strict}
 pub use Rattle.td_base.specs.declared.span.Span.{Span}
-pub use Rattle.ipv6_packet.proofs.LawProofs.{packet_is_bytes, packet_is_spelled}
+pub use Rattle.ipv6_packet.proofs.LawProofs.{packet_is_bytes, packet_is_spelled, packet_reads_back}
 pub use Rattle.ipv6_packet.specs.Packets.{Fields, packet_at}
 unfoldable pub use Rattle.ipv6_packet.specs.Packets.{packet_bytes}
 pub use Rattle.ipv6_packet.specs.Reads.{fields_in, is_packet}
@@ -128,21 +128,23 @@ pub use Rattle.relay_rules.specs.Transmission.{RelayGiven, relay_destination_lin
 unfoldable pub use Rattle.relay_rules.specs.Transmission.{bubble_to, relay_given, relay_transmission}
 pub use Rattle.relay_rules.specs.Warrants.{RelayGoesLater, RelayGoesToCone, RelaySentOnlyIf}
 pub use Rattle.nat_kinds.proofs.LawProofs.{counting_datagram_holds_its_port}
-pub use Rattle.nat_kinds.specs.Answer.{live_after, nat_answer}
+pub use Rattle.nat_kinds.specs.Answer.{live_after, nat_answer, port_for}
 pub use Rattle.nat_kinds.specs.Entering.{lets_in}
 pub use Rattle.nat_kinds.specs.History.{NatEntry, Out, counting, is_young}
 pub use Rattle.nat_kinds.specs.Kinds.{is_symmetric}
 pub use Rattle.nat_kinds.specs.Laws.{Asked}
-pub use Rattle.nat_kinds.specs.Mappings.{live_port}
+pub use Rattle.nat_kinds.specs.Mappings.{latest, live_port}
 pub use Rattle.nat_kinds.specs.declared.kind.NatKind.{NatKind}
 pub use Rattle.nat_kinds.specs.declared.kind.NatKind.TheVariants.{Cone, Port, Restricted, Symmetric}
 pub use Rattle.nat_kinds.specs.declared.outgoing.Outward.{Outward}
 pub use Rattle.nat_kinds.specs.declared.refusal.NatRefusal.{NatRefusal}
+pub use Rattle.nat_kinds.specs.declared.refusal.NatRefusal.TheVariants.{Hairpin}
+pub use Rattle.nat_kinds.specs.declared.settings.NatSettings.{NatSettings}
 pub use Rattle.native_host.specs.Natives.{Native, native_in, sent_by}
 unfoldable pub use Rattle.native_host.specs.Natives.{native_out}
 pub use Rattle.topology.proofs.LawProofs.{each_node}
 pub use Rattle.topology.proofs.Lists.{all_joined, all_right}
-pub use Rattle.topology.specs.Chains.{Behind, Inward, NatPasts, Passing, after_passing, chain_in, comes_to, crossing, is_inner, last_nat, nat_set_up, nats_from, outer_in, outs_at, passing, shut_at, way_out}
+pub use Rattle.topology.specs.Chains.{Behind, Crossing, Inward, NatPasts, Passing, after_passing, chain_in, comes_to, crossing, is_inner, last_nat, nat_set_up, nats_from, outer_in, outs_at, passing, shut_at, way_out}
 pub use Rattle.topology.specs.NodeRules.{IsNativeNode, IsRelayNode, has_address}
 pub use Rattle.topology.specs.Rows.{TopologyState}
 pub use Rattle.topology.specs.Rules.{IsTopology}
@@ -173,7 +175,7 @@ pub use Rattle.legal.specs.Lab.{Lab}
 pub use Rattle.legal.specs.Laws.{IsAskedFor, is_advance, others}
 pub use Rattle.legal.specs.Legal.{Follows, GoesOn, Grown}
 pub use Rattle.legal.specs.MadeWire.{IsMadeItem, IsPacketItem}
-pub use Rattle.legal.specs.Makers.{Forges, MadeBy, by_client, by_native, by_relay, by_server, from_nowhere, strange, to_six}
+pub use Rattle.legal.specs.Makers.{Forges, Leaves, MadeBy, by_client, by_native, by_relay, by_server, from_nowhere, strange, to_six}
 pub use Rattle.legal.specs.Next.{DueNode, Numbered, address_at, address_of, advanced, blank, delivers_item, delivers_or, delivers_to, dst_of, input_of, least_due, next_of, no_ep, numbered, plain}
 pub use Rattle.legal.specs.OfNode.{OfNode, acts, rests}
 pub use Rattle.legal.specs.OwnSends.{AreOfSends, AreOfSendsAnd}
@@ -197,7 +199,7 @@ pub use Rattle.theory_first_packets.proofs.Deliveries.{Did, Handing, did_with, h
 pub use Rattle.theory_first_packets.proofs.HandedIn.{IsHandedIn, sound_first}
 pub use Rattle.theory_first_packets.proofs.Journals.{at_same_moment, other_journal}
 pub use Rattle.theory_first_packets.proofs.LawProofs.{next_packet_arrives_along}
-pub use Rattle.theory_first_packets.proofs.passing.Addresses.{is_nat_node, own_address_is, two_kinds}
+pub use Rattle.theory_first_packets.proofs.passing.Addresses.{IsTold, is_nat_node, own_address_is, two_kinds}
 pub use Rattle.theory_first_packets.proofs.passing.AllSent.{AllSent, DoesSend, all_leaves}
 pub use Rattle.theory_first_packets.proofs.passing.Arrivals.{Arrival, At, arrival, beyond, bubble_formed, bubble_message, bubble_small}
 pub use Rattle.theory_first_packets.proofs.passing.Elsewhere.{from_no_server, no_server_address, no_server_second, server_elsewhere}
@@ -208,7 +210,7 @@ pub use Rattle.theory_first_packets.proofs.passing.OwnAddress.{IsHere, address_i
 pub use Rattle.theory_first_packets.proofs.passing.Reaching.{to_client, to_none, to_server}
 pub use Rattle.theory_first_packets.proofs.passing.Sent.{IsElsewhere}
 pub use Rattle.theory_first_packets.proofs.passing.Sides.{ComesIn, setup}
-pub use Rattle.theory_first_packets.proofs.passing.Ways.{IsCalmNext, LeavesNats, Way, any_dst, nats_left, still_way}
+pub use Rattle.theory_first_packets.proofs.passing.Ways.{IsCalmNext, LeavesNats, Way, any_dst, counts_itself, counts_on, nats_left, still_way}
 pub use Rattle.theory_first_packets.proofs.passing.WaysIn.{WayIn, asked_along, cone_along, enters_along, still_in}
 pub use Rattle.theory_first_packets.proofs.schedule.Alone.{alone, as_long, first_is, on_wire}
 pub use Rattle.theory_first_packets.proofs.schedule.Brought.{some_so, within_so}
@@ -256,13 +258,13 @@ pub use Rattle.theory_reaching.specs.Conditions.{clients_of, ends_at, has_room_f
 unfoldable pub use Rattle.theory_reaching.specs.Conditions.{is_led_to, is_settled}
 pub use Rattle.theory_reaching.specs.FromNative.{from_native_lines, from_native_row}
 pub use Rattle.theory_reaching.specs.Kept.{WordsAreKept, WordsKept}
-pub use Rattle.theory_reaching.specs.MovedStraight.{GoneElsewhere, MovedBetweenClients, MovedTests, MovedToNatives}
+pub use Rattle.theory_reaching.specs.MovedStraight.{GoneElsewhere, MovedBetweenClients, MovedBubbles, MovedTests, MovedToNatives}
 pub use Rattle.theory_reaching.specs.Promises.{BringsTo, BringsWithin, ComesInTime, ComesWithHeld, IsDroppedAtOnce, IsNameable, IsOwnTest, IsPromised, IsSentNext, IsShut, KeepsBetweenClients, KeepsBetweenClientsIn, KeepsFromNatives, KeepsFromNativesIn, KeepsItsPromise, KeepsItsPromiseIn, KeepsToNatives, KeepsToNativesIn, NoneButHeld, NoneButItsTest, SomeBrings}
 pub use Rattle.theory_reaching.specs.Reach.{reach_between}
 unfoldable pub use Rattle.theory_reaching.specs.Reach.{reach_of}
 pub use Rattle.theory_reaching.specs.Silent.{BarredSenderIsSilent, BarredSenderIsSilentIn, HandsIn, OffMakesNothing, OffMakesNothingIn}
-pub use Rattle.theory_reaching.specs.Speaks.{answers_at, is_from, way_to}
-unfoldable pub use Rattle.theory_reaching.specs.Speaks.{somebody_answers, speaks_to}
+pub use Rattle.theory_reaching.specs.Speaks.{answers_at, is_elsewhere, is_from, way_to}
+unfoldable pub use Rattle.theory_reaching.specs.Speaks.{bubbles_stray, somebody_answers, speaks_to, strays_to}
 pub use Rattle.theory_reaching.specs.ThroughRelay.{Relayed}
 unfoldable pub use Rattle.theory_reaching.specs.ThroughRelay.{relayed}
 pub use Rattle.theory_reaching.specs.ToNative.{late_native_lines, opening_native_lines, to_native_lines, to_native_row}

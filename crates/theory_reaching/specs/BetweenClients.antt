@@ -18,7 +18,8 @@ pub use Rattle.theory_reaching.specs.declared.clients_table.TwoClients.{TwoClien
 use Rattle.theory_reaching.specs.declared.word.Reach.{Reach}
 use Rattle.theory_reaching.specs.declared.word.Reach.TheVariants as word
 use Rattle.theory_reaching.specs.Conditions.{is_on, is_led_to, is_settled, peers_of}
-use Rattle.theory_reaching.specs.Speaks.{speaks_to}
+use Rattle.theory_settled.specs.Clients.{asks_at}
+use Rattle.theory_reaching.specs.Speaks.{speaks_to, bubbles_stray}
 
 -- client n, which is a, and client m, which is b, with these addresses
 abbrev pub two_clients_with : Lab → List Full → ℕ → ℕ → ClientNode → ClientNode → (own other : Ip6) → TwoClients
@@ -27,6 +28,7 @@ two_clients_with lab H n m a b own other = record {
   there = is_on lab H m b;
   same_address = same_ip6 own other;
   speaks = speaks_to lab H a own (embedded other);
+  bubbles_astray = bubbles_stray lab H a own (embedded other) (asks_at lab b);
   settled = is_settled lab H n a && is_settled lab H m b;
   one_nat = outermost lab a == outermost lab b;
   heard = has_room (peers_of H m) (now H) own;
@@ -45,14 +47,15 @@ two_clients_with lab H n m a b own other = record {
 unfoldable pub two_clients : Lab → List Full → ℕ → ℕ → ClientNode → ClientNode → TwoClients
 two_clients lab H n m a b = two_clients_with lab H n m a b (address_at lab H n) (address_at lab H m)
 
--- what wants neither client settled: a packet that goes at once, and whose sender doesn't speak to where it goes, of two clients that are
--- behind different NATs, and of which the receiver has room for the sender
+-- what wants neither client settled: a packet that goes at once, and whose sender doesn't speak to where it goes, or one before which bubbles
+-- go that stray, of two clients that are behind different NATs, and of which the receiver has room for the sender
 abbrev pub opening_client_lines : TwoClients → List (Bool × Reach)
 opening_client_lines a =
     (not a.on, word.Off)
     ∷ (not a.there, word.Away)
     ∷ (a.same_address, word.OneAddress)
     ∷ ((a.fresh || a.to_cone) && (not a.speaks && (not a.one_nat && a.heard)), word.Moved)
+    ∷ (not (a.fresh || a.to_cone) && (a.bubbles_astray && (not a.one_nat && (a.heard && (not a.barred && a.room)))), word.Moved)
     ∷ []
 
 -- up to where both may send bubbles, or the receiver answers none that comes through its server

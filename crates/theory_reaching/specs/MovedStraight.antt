@@ -1,5 +1,5 @@
--- `moved` where a packet goes at once: its sender doesn't speak to where it goes. The first of the finer words that wants neither client
--- settled, nor anything of other clients.
+-- `moved` where a packet goes at once: its sender doesn't speak to where it goes; and where it draws bubbles or a test, which leave from
+-- elsewhere. These words want neither client settled, nor anything of other clients.
 use Rattle.std.specs.Prelude.{◌≡◌, ◌||◌, ℕ, true, false, List, ◌∷◌, ◌++◌, Some}
 use Rattle.td_base.specs.declared.endpoint.Ep.{Ep}
 use Rattle.teredo_addr.specs.Teredo.{has_cone, embedded}
@@ -20,7 +20,7 @@ use Rattle.theory_first_packets.specs.MayMeet.{known_by}
 use Rattle.theory_first_packets.specs.Schedules.{AreFresh}
 use Rattle.theory_reaching.specs.Conditions.{is_on}
 use Rattle.theory_reaching.specs.Promises.{IsSentNext, IsShut}
-use Rattle.theory_reaching.specs.Speaks.{speaks_to, somebody_answers}
+use Rattle.theory_reaching.specs.Speaks.{speaks_to, bubbles_stray, somebody_answers}
 
 -- of a client for a qualified one that is fresh at it or cone
 abbrev pub MovedBetweenClients : Type 0
@@ -51,3 +51,11 @@ MovedTests = (lab : Lab) (H : List Full) (q : Full) (later : List Full) (n m : �
     → IsTopology lab.topology → Grown lab (later ++ q ∷ H) → node_at lab.topology n ≡ Some (client c) → node_at lab.topology m ≡ Some (native h)
     → is_on lab H n c ≡ true → is_fresh (now H) (known_by H n h.six) ≡ false → speaks_to lab H c (address_at lab H n) (asks_at lab c) ≡ false
     → IsSentNext lab H q n m (client c) x → AreFresh q later → IsShut m (native h) x later
+
+-- of a client for a qualified one that is neither fresh at it nor cone, for which its bubbles stray
+abbrev pub MovedBubbles : Type 0
+MovedBubbles = (lab : Lab) (H : List Full) (q : Full) (later : List Full) (n m : ℕ) (c d : ClientNode) (x : List ℕ) → IsTopology lab.topology
+    → Grown lab (later ++ q ∷ H) → node_at lab.topology n ≡ Some (client c) → node_at lab.topology m ≡ Some (client d) → is_on lab H n c ≡ true
+    → is_on lab H m d ≡ true → (is_fresh (now H) (known_by H n (address_at lab H m)) || has_cone (address_at lab H m)) ≡ false
+    → bubbles_stray lab H c (address_at lab H n) (embedded (address_at lab H m)) (asks_at lab d) ≡ true → IsSentNext lab H q n m (client c) x
+    → AreFresh q later → IsShut m (client d) x later

@@ -35,6 +35,22 @@ is_from at (Err why) = false
 unfoldable pub speaks_to : Lab → List Full → ClientNode → (own : Ip6) → Ep → Bool
 speaks_to lab H c own dst = is_from (embedded own) (way_to lab H c dst).leaves
 
+-- is a datagram let out, from another endpoint than this one?
+abbrev pub is_elsewhere : Ep → Result Ep NatRefusal → Bool
+is_elsewhere at (Ok src) = not (same_ep src at)
+is_elsewhere at (Err why) = false
+
+-- *strays*: what client c with the address own sends to an endpoint is let out by each NAT of its way, from another endpoint than the
+-- address embeds
+unfoldable pub strays_to : Lab → List Full → ClientNode → (own : Ip6) → Ep → Bool
+strays_to lab H c own dst = is_elsewhere (embedded own) (way_to lab H c dst).leaves
+
+-- so do its bubbles for a client, whose endpoint and whose server these are: those to the client itself stray, those to the server leave
+-- from elsewhere or not at all, and whichever goes first, no NAT of the way being symmetric
+unfoldable pub bubbles_stray : Lab → List Full → ClientNode → (own : Ip6) → (there asked : Ep) → Bool
+bubbles_stray lab H c own there asked =
+    strays_to lab H c own there && (not (has_symmetric lab c) && not (speaks_to lab H c own asked))
+
 -- to each of two: one after the other, so that no NAT of the way may be symmetric where they differ
 unfoldable pub speaks_to_both : Lab → List Full → ClientNode → (own : Ip6) → (one other : Ep) → Bool
 speaks_to_both lab H c own one other =

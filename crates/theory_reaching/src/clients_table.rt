@@ -17,6 +17,8 @@ pub struct TwoClients {
     pub same_address: bool,
     /// The sender speaks to the receiver's endpoint.
     pub speaks: bool,
+    /// The sender's bubbles for the receiver leave from elsewhere than its address says.
+    pub bubbles_astray: bool,
     /// Both are settled along their ways.
     pub settled: bool,
     /// Their outermost NATs are one.
@@ -129,6 +131,12 @@ impl TwoClients {
             return Reach::OneAddress;
         }
         if (self.fresh || self.to_cone) && (!self.speaks && (!self.one_nat && self.heard)) {
+            return Reach::Moved;
+        }
+        if !(self.fresh || self.to_cone)
+            && (self.bubbles_astray
+                && (!self.one_nat && (self.heard && (!self.barred && self.room))))
+        {
             return Reach::Moved;
         }
         self.early_word()

@@ -1,7 +1,7 @@
 //! Laws of the words: which keep what they promise, in every history.
 ghost use Rattle.theory_reaching.specs.Kept.{WordsAreKept};
 ghost use Rattle.theory_reaching.specs.Waiting.{ClientKeptBack};
-ghost use Rattle.theory_reaching.specs.MovedStraight.{MovedBetweenClients, MovedToNatives, GoneElsewhere, MovedTests};
+ghost use Rattle.theory_reaching.specs.MovedStraight.{MovedBetweenClients, MovedToNatives, GoneElsewhere, MovedTests, MovedBubbles};
 ghost use Rattle.theory_reaching.specs.Promises.{KeepsItsPromise, KeepsBetweenClients, KeepsFromNatives, KeepsToNatives};
 ghost use Rattle.theory_reaching.specs.declared.word.Reach.TheVariants.{OneAddress, Moved, Full, Stale, Barred, Within1, Within2, Within4, Within5, Within6, Within7, Within8, Within9, Within10, Within11, Within12, Within13};
 
@@ -121,8 +121,9 @@ pub fn past_waiting_is_kept()
 {}
 
 /// Where it is `moved`, no fresh schedule brings the packet, of two clients or to a native host, be it a test or not:
-/// it goes at once, or draws a test, and its client doesn't speak to where that goes. Nobody has to be settled. It
-/// speaks of the next packet alone: the client's next refresh may give it another address.
+/// it goes at once, or draws a test, and its client doesn't speak to where that goes; or it draws bubbles, which leave
+/// from elsewhere than the client's address says. Nobody has to be settled. It speaks of the next packet alone: the
+/// client's next refresh may give it another address.
 pub fn moved_is_kept()
     ensures { KeepsBetweenClients Moved × KeepsToNatives Moved }
 {}
@@ -136,11 +137,13 @@ pub fn self_is_kept()
 /// elsewhere than its source says, or is refused by a NAT, and whoever gets it drops it. So it is between clients,
 /// where the receiver is fresh or has the cone bit, and to a native host that is trusted at its relay; and of a packet
 /// for a native host that is trusted where neither a server nor a relay answers, or that isn't fresh, where the client
-/// doesn't speak to its own server, to which the test goes. It is stated in `MovedStraight.antt`, what a client speaks
-/// to in `Speaks.antt`. The word `moved` rests on it.
+/// doesn't speak to its own server, to which the test goes. Nor does a schedule bring one that draws bubbles, where
+/// these leave from elsewhere: no NAT of the client's way is symmetric, its NATs let out what it sends to the receiver,
+/// from another endpoint, and it doesn't speak to the receiver's server. It is stated in `MovedStraight.antt`, what a
+/// client speaks to in `Speaks.antt`. The word `moved` rests on it.
 /// Needs: a history of a topology that keeps its rules; nobody has to be settled.
 pub fn moved_straight_is_kept()
-    ensures { MovedBetweenClients × MovedToNatives × GoneElsewhere × MovedTests }
+    ensures { MovedBetweenClients × MovedToNatives × GoneElsewhere × MovedTests × MovedBubbles }
 {}
 
 /// Where an event is over, a client is barred for each peer for which packets wait at it: no tick of it is late.

@@ -41,9 +41,10 @@
 //! `crates/worked_facts/proofs/WithinFacts.antt` the packet comes by the second delivery, to a native host and from
 //! one, also where the relay forgot a client with the cone bit, and by the fifth where it must ask. In
 //! `crates/worked_facts/proofs/ShutFacts.antt` none brings it: it is `stale` of a host that is trusted elsewhere, and
-//! `barred` of a client on one that may not try yet. In `crates/worked_facts/proofs/OtherwiseFacts.antt` it comes
-//! though the word is shut: the test that its record drew, by the second delivery past `barred`, and a packet that the
-//! client holds, by the sixth past `full`.
+//! `barred` of a client on one that may not try yet; and in `crates/worked_facts/proofs/MovedFacts.antt`, where it is
+//! `moved` of a client that got another port at its outer NAT than its address says. In
+//! `crates/worked_facts/proofs/OtherwiseFacts.antt` it comes though the word is shut: the test that its record drew, by
+//! the second delivery past `barred`, and a packet that the client holds, by the sixth past `full`.
 #![tactic(auto)]
 
 mod clients_table;

@@ -40,7 +40,7 @@ module _ (s : Weighing) where
         let swap = exchanges_holds s.lab s.before s.full new.number x s.grown new.delivered new.new at (weigh_after s) in
         let front : 0 + new.number ≡ new.number = omega arith in
         let counts = one_counts s.before (weigh_after s) (weigh_before s) (no_more t s.before (s.full ∷ s.before) s.lasts s.ease) 0 new.number
-        (wire s.before) x at (ap (λ (k : ℕ). was_delivered k s.before) front ∙ new.new) in
+        (wire s.before) at (ap (λ (k : ℕ). was_delivered k s.before) front ∙ new.new) in
         omega (arith, swap, counts, less_than)
 
     -- by whether a node was reached

@@ -154,11 +154,11 @@ module _ (t : TopologyState) (src dst : Ep) (x : List ℕ) where
       (not_from_false (is_bubble (value_in x).packet) plain) (not_from_false (is_echo_reply (message_in (value_in x).packet)) reply)))))
 
   -- an indirect bubble
-  pub indirect_weight : (o : Ep) → list_any (is_nat_at dst) (nodes t) ≡ true → is_payload x ≡ true → is_some_server t src ≡ true
+  pub indirect_weight : {o : Ep} → list_any (is_nat_at dst) (nodes t) ≡ true → is_payload x ≡ true → is_some_server t src ≡ true
       → is_bubble (value_in x).packet ≡ true → origin_in (value_in x).lead ≡ Some o
       → cond (is_some_server t o) 3 2 ≤ datagram_weight t src dst x
   unfolding datagram_weight
-  indirect_weight o there payload served bubble told =
+  indirect_weight there payload served bubble told =
       let least = indirect_least (freight t src dst (is_payload x) (value_in x))
       (and_from (is_payload x && list_any (is_nat_at dst) (nodes t))
       (is_some_server t src && (is_bubble (value_in x).packet && is_some (origin_in (value_in x).lead)))

@@ -54,31 +54,31 @@ before lab (q ∷ H) e has event goes = by (has_more q.asked q.act) refl where
 
 -- A RECORD
 
-module _ (lab : Lab) (H : List Full) (r : Full) (is : IsTopology lab.topology) (g : Grown lab H) (follows : Follows lab H r) (more : has_more r.asked r.act ≡ true) where
+module _ {lab : Lab} {H : List Full} {r : Full} (is : IsTopology lab.topology) (g : Grown lab H) (follows : Follows lab H r) (more : has_more r.asked r.act ≡ true) where
   start : began (r ∷ H) ≡ began H
   start = ap (λ (b : Bool). cond b (began H) r.moment) more
 
-  ends : {A : Type 0} (e : Event) → r.asked ≡ e → has_more e r.act ≡ false → A
-  ends e asked none = absurd (false≢true (sym none ∙ ap (λ (x : Event). has_more x r.act) (sym asked) ∙ more))
+  ends : {A : Type 0} {e : Event} → r.asked ≡ e → has_more e r.act ≡ false → A
+  ends asked none = absurd (false≢true (sym none ∙ ap (λ (x : Event). has_more x r.act) (sym asked) ∙ more))
 
   -- of its event less is left after it
   less : (e : Event) → r.asked ≡ e → left_of_event lab (r ∷ H) e < left_of_event lab H e
   less (event.Advance ms) asked = subst (λ (m : ℕ). left_to lab (r ∷ H) (m + ms) < left_to lab H (began H + ms)) (sym start) (advances_fall lab H r ms is g follows asked more)
   less event.Settle asked = each_lightens lab H r is (follows, g) (settle_delivers_new lab H r (follows, g) (record { asked = asked; more = more }))
-  less (event.Deliver number) asked = ends (event.Deliver number) asked refl
-  less event.Next asked = ends event.Next asked refl
-  less (event.Host n to body) asked = ends (event.Host n to body) asked refl
-  less (event.Echo n to seq) asked = ends (event.Echo n to seq) asked refl
-  less (event.Raw n x) asked = ends (event.Raw n x) asked refl
-  less (event.Stranger src dst x) asked = ends (event.Stranger src dst x) asked refl
-  less (event.Copy number src dst) asked = ends (event.Copy number src dst) asked refl
-  less (event.Restart n) asked = ends (event.Restart n) asked refl
-  less (event.Forget n who) asked = ends (event.Forget n who) asked refl
-  less (event.Fault send) asked = ends (event.Fault send) asked refl
+  less (event.Deliver number) asked = ends asked refl
+  less event.Next asked = ends asked refl
+  less (event.Host n to body) asked = ends asked refl
+  less (event.Echo n to seq) asked = ends asked refl
+  less (event.Raw n x) asked = ends asked refl
+  less (event.Stranger src dst x) asked = ends asked refl
+  less (event.Copy number src dst) asked = ends asked refl
+  less (event.Restart n) asked = ends asked refl
+  less (event.Forget n who) asked = ends asked refl
+  less (event.Fault send) asked = ends asked refl
 
 pub falls : EachFalls
 falls lab H r is g room follows more =
-    let fell = less lab H r is g follows more r.asked refl in
+    let fell = less is g follows more r.asked refl in
     let most = before lab H r.asked (record { is = is; grown = g; room = room }) follows.event follows.goes_on in
     let left_now : left lab (r ∷ H) ≡ left_of_event lab (r ∷ H) r.asked = ap (λ (b : Bool). cond b (left_of_event lab (r ∷ H) r.asked) LEFT_MAX) more in
     omega (arith, fell, most, left_now)

@@ -66,7 +66,7 @@ pub lasts_missed : (lab : Lab) (H : List Full) (r : Full) (x : Item) → IsMisse
 unfolding relay_trusts
 lasts_missed lab H r x m n c h = same_trust H r n c m.moment (m.journals n) (node_at lab.topology n) h
 
-module _ (lab : Lab) (H : List Full) (r : Full) (n : ℕ) (a : Node) (x : Item) (h : IsReached lab H r n a x) where
+module _ {lab : Lab} {H : List Full} {r : Full} {n : ℕ} {a : Node} {x : Item} (h : IsReached lab H r n a x) where
   -- of the node itself
   own : (c : Ip6) (o : Option Node) → node_at lab.topology n ≡ o → trusts_as H n c o ≡ true → trusts_as (r ∷ H) n c o ≡ true
   own c None e g = g
@@ -94,7 +94,7 @@ module _ (lab : Lab) (H : List Full) (r : Full) (n : ℕ) (a : Node) (x : Item) 
 
 -- through each delivery
 pub lasts_through : (lab : Lab) (H : List Full) (r : Full) (number : ℕ) → Delivery lab H r number → Lasts lab.topology H (r ∷ H)
-lasts_through lab H r number (to_node n a x at h) = lasts_reached lab H r n a x h
+lasts_through lab H r number (to_node n a x at h) = lasts_reached h
 lasts_through lab H r number (to_nobody x at m) = lasts_missed lab H r x m
 
 pub trust_lasts : TrustLasts

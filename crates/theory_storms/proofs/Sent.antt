@@ -34,9 +34,20 @@ own_there a to h = by (same_ep to (server_ep a.primary)) (same_ep to (server_ep 
 no_request : (p : Fields) → is_bubble p ≡ true → is_solicit (message_in p) ≡ false
 no_request p bubble = ap is_solicit (bubble_message p bubble)
 
+-- a datagram with a payload that is read
+pub record SentDatagram (x : List ℕ) : Type 0 where
+  pub t : TopologyState
+  pub src : Ep
+  pub to : Ep
+  pub p : Fields
+  pub reads : ReadsPayload (value_written None None p) x
+  pub bytes : IsBytes x
+  pub made : IsEp src
+
 -- a datagram with a packet and nothing in front
-module _ (t : TopologyState) (src to : Ep) (x : List ℕ) (p : Fields) (reads : ReadsPayload (value_written None None p) x)
-    (bytes : IsBytes x) (made : IsEp src) where
+module _ {x : List ℕ} (sent_datagram : SentDatagram x) where
+  open sent_datagram use {t, src, to, p, reads, bytes, made}
+
   plain_is : datagram_weight t src to x ≡ load t src to None p
   plain_is = load_is t src to None p x reads
 
@@ -44,11 +55,11 @@ module _ (t : TopologyState) (src to : Ep) (x : List ℕ) (p : Fields) (reads : 
   pub teredo_sent : is_teredo p.src ≡ true → is_bubble p ≡ false → entry_weight t (udp src to x) ≤ 8
   teredo_sent teredo plain = sent_under t src to x 8
       (let is = plain_is in let less = teredo_load t src to None p teredo plain in omega (arith, is, less))
-      (λ a there. let less = teredo_there t a (side_at (server a) to) src x p reads bytes made teredo plain in omega (arith, less))
+      (λ a there. let less = teredo_there (record { t = t; a = a; side = side_at (server a) to; from = src; x = x; p = p; reads = reads; bytes = bytes; made = made }) teredo plain in omega (arith, less))
 
-  looped : (a : ServerNode) → is_teredo p.dst ≡ true → to ≡ embedded p.dst → IsThere t to (server a) → drawn_from t src to x a ≤ 0
-  looped a teredo where_to there =
-      looped_there t a (side_at (server a) to) src x p reads bytes made teredo
+  looped : {a : ServerNode} → is_teredo p.dst ≡ true → to ≡ embedded p.dst → IsThere t to (server a) → drawn_from t src to x a ≤ 0
+  looped {a} teredo where_to there =
+      looped_there (record { t = t; a = a; side = side_at (server a) to; from = src; x = x; p = p; reads = reads; bytes = bytes; made = made }) teredo
       (ap (λ (e : Ep). is_own (server_settings a) e.ip) (sym where_to) ∙ own_there a to there.passes)
 
   -- what a relay releases: an echo reply, or anything
@@ -56,18 +67,18 @@ module _ (t : TopologyState) (src to : Ep) (x : List ℕ) (p : Fields) (reads : 
       → entry_weight t (udp src to x) ≤ 1
   reply_sent foreign teredo where_to reply = sent_under t src to x 1
       (let is = plain_is in let less = reply_load t src to p foreign reply in omega (arith, is, less))
-      (λ a there. let less = looped a teredo where_to there in omega (arith, less))
+      (λ a there. let less = looped teredo where_to there in omega (arith, less))
 
   pub packet_sent : is_teredo p.dst ≡ true → to ≡ embedded p.dst → entry_weight t (udp src to x) ≤ 8
-  packet_sent teredo where_to = sent_under t src to x 8 (datagram_most t src to x) (λ a there. let less = looped a teredo where_to there in omega (arith, less))
+  packet_sent teredo where_to = sent_under t src to x 8 (datagram_most t src to x) (λ a there. let less = looped teredo where_to there in omega (arith, less))
 
   -- a test, which goes to a server
-  pub test_sent : (a : ServerNode) → first_at t to ≡ Some (server a) → is_teredo p.dst ≡ false → is_solicit (message_in p) ≡ false
+  pub test_sent : {a : ServerNode} → first_at t to ≡ Some (server a) → is_teredo p.dst ≡ false → is_solicit (message_in p) ≡ false
       → entry_weight t (udp src to x) ≤ 7
-  test_sent a first foreign plain =
+  test_sent {a} first foreign plain =
       let is = ap (weight_at t src to x) first in
       let six = packet_under p 6 (omega arith) (λ _. omega arith) in
-      let less = native_there t a (side_at (server a) to) src x p reads bytes made 6 foreign plain six in
+      let less = native_there (record { t = t; a = a; side = side_at (server a) to; from = src; x = x; p = p; reads = reads; bytes = bytes; made = made }) 6 foreign plain six in
       omega (arith, is, less)
 
   -- the answer to an indirect bubble, to a server's endpoint or elsewhere
@@ -77,8 +88,8 @@ module _ (t : TopologyState) (src to : Ep) (x : List ℕ) (p : Fields) (reads : 
     plain = let is = plain_is in let less = bubble_load t src to p bubble in omega (arith, is, less)
 
     there_is : (a : ServerNode) (teredo : Bool) → is_teredo p.dst ≡ teredo → IsThere t to (server a) → 1 + drawn_from t src to x a ≤ 2
-    there_is a true e there = let less = looped a e (where_to e) there in omega (arith, less)
-    there_is a false e there = let less = native_there t a (side_at (server a) to) src x p reads bytes made 1 e (no_request p bubble)
+    there_is a true e there = let less = looped e (where_to e) there in omega (arith, less)
+    there_is a false e there = let less = native_there (record { t = t; a = a; side = side_at (server a) to; from = src; x = x; p = p; reads = reads; bytes = bytes; made = made }) 1 e (no_request p bubble)
         (bubble_weight p bubble) in omega (arith, less)
 
     by : (b : Bool) → is_some_server t to ≡ b → entry_weight t (udp src to x) ≤ cond b 2 1
@@ -90,5 +101,5 @@ module _ (t : TopologyState) (src to : Ep) (x : List ℕ) (p : Fields) (reads : 
   pub bubble_sent : is_bubble p ≡ true → is_some_server t src ≡ false → entry_weight t (udp src to x) ≤ 3
   bubble_sent bubble elsewhere = sent_under t src to x 3
       (let is = plain_is in let less = bubble_load t src to p bubble in omega (arith, is, less))
-      (λ a there. let less = bubble_there t a (side_at (server a) to) src x p reads bytes made bubble (no_request p bubble) elsewhere in omega
+      (λ a there. let less = bubble_there (record { t = t; a = a; side = side_at (server a) to; from = src; x = x; p = p; reads = reads; bytes = bytes; made = made }) bubble (no_request p bubble) elsewhere in omega
       (arith, less))

@@ -13,10 +13,10 @@ all_under f g (x ∷ xs) h =
 
 -- where nothing weighs more than before, one that is undelivered counts its difference
 module _ (H : List Full) (f g : Item → ℕ) (under : (y : Item) → f y ≤ g y) where
-  pub one_counts : (i n : ℕ) (xs : List Item) (x : Item) → slice_get xs n ≡ Some x
+  pub one_counts : (i n : ℕ) (xs : List Item) {x : Item} → slice_get xs n ≡ Some x
       → was_delivered (i + n) H ≡ false → sum_by f (undelivered_from H i xs) + g x ≤ sum_by g (undelivered_from H i xs) + f x
-  one_counts i n [] x at fresh = absurd (false≢true (ap (λ (o : Option Item). is_some o) at))
-  one_counts i zero (y ∷ xs) x at fresh =
+  one_counts i n [] at fresh = absurd (false≢true (ap (λ (o : Option Item). is_some o) at))
+  one_counts i zero (y ∷ xs) {x} at fresh =
       let is : y ≡ x = ap (λ (o : Option Item). unwrap_or o y) at in
       let here : i + 0 ≡ i = omega arith in
       let still : was_delivered i H ≡ false = ap (λ (k : ℕ). was_delivered k H) (sym here) ∙ fresh in
@@ -28,9 +28,9 @@ module _ (H : List Full) (f g : Item → ℕ) (under : (y : Item) → f y ≤ g 
       let c = ap f is in
       let e = ap g is in
       omega (arith, left, right, a, b, rest, c, e)
-  one_counts i (suc n) (y ∷ xs) x at fresh =
+  one_counts i (suc n) (y ∷ xs) {x} at fresh =
       let moved : i + suc n ≡ i + 1 + n = omega arith in
-      let rest = one_counts (i + 1) n xs x at (ap (λ (k : ℕ). was_delivered k H) (sym moved) ∙ fresh) in
+      let rest = one_counts (i + 1) n xs at (ap (λ (k : ℕ). was_delivered k H) (sym moved) ∙ fresh) in
       by (was_delivered i H) rest
     where
       by : (b : Bool) → sum_by f (undelivered_from H (i + 1) xs) + g x ≤ sum_by g (undelivered_from H (i + 1) xs) + f x

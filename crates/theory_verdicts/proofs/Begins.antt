@@ -58,5 +58,5 @@ module _ (scene : Scene) (off : starts scene.place.n scene.r ≡ false) where
   pub goes_on : IsCalm lab H r n c → IsSound lab H n c → IsSound lab (r ∷ H) n c
   goes_on calm i = by concerns where
     by : Concerns lab H r n c → IsSound lab (r ∷ H) n c
-    by (own e act) = of_client scene e act calm i
+    by (own e act) = of_client scene act calm i
     by (others same none) = left_alone scene calm same none i

@@ -15,7 +15,18 @@ is_phase Secondary h = absurd (false≢true h)
 is_phase Symmetric h = absurd (false≢true h)
 is_phase OffLine h = absurd (false≢true h)
 
-module _ (lab : Lab) (H : List Full) (n : ℕ) (c : ClientNode) (p : IsPastOf (view_of lab H c)) (i : IsSound lab H n c) where
+-- a client that has been sound so far
+pub record SoundPast : Type 0 where
+  pub lab : Lab
+  pub H : List Full
+  pub n : ℕ
+  pub c : ClientNode
+  pub p : IsPastOf (view_of lab H c)
+  pub i : IsSound lab H n c
+
+module _ (sound_past : SoundPast) where
+  open sound_past use {lab, H, n, c, p, i}
+
   -- what the phase of those who have an address says
   good : is_qualified (standing lab H n c).phase ≡ true → GoodAddress (view_of lab H c) c.cone_try (standing lab H n c).address
   good h = subst (λ (ph : Phase). IsSoundIn (view_of lab H c) c.cone_try ph (standing lab H n c).kept (standing lab H n c).address)

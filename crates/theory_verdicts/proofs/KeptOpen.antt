@@ -56,7 +56,7 @@ module _ (scene : Scene) (off : starts scene.place.n scene.r ≡ false)
 
     by : (b : Bool) → is_told (turn_of e) ≡ b → was_answered (r ∷ H) n ≡ true
     by true h =
-        let t = is_told_at scene e act h in
+        let t = is_told_at scene act h in
         of_rests (subst (Rests (standing lab H n c).phase) t.phase
         (told_rests (standing lab H n c).phase (is_same_origin (Some t.dst) (origin_before (standing lab H n c) (standing lab H n c).phase)) no_cone))
     by false h = before (firm.answered (untold_rests (turn_of e) (standing lab H n c).phase h after))
@@ -76,9 +76,9 @@ module _ (place : Place) (never : place.c.cone_try ≡ false) where
   HasBegun before = has_sent lab before n c || was_answered before n
 
   -- one record more
-  step : (H : List Full) (r : Full) → Grown lab (r ∷ H) → are_honest_for lab.topology c H ≡ true → starts n r ≡ false → IsFirm lab H n c
+  step : (H : List Full) {r : Full} → Grown lab (r ∷ H) → are_honest_for lab.topology c H ≡ true → starts n r ≡ false → IsFirm lab H n c
       → list_any (is_loss_of c.inside) (nat_entries lab c.nat r) ≡ false → (HasBegun H && not (is_open_at lab H r.moment c)) ≡ false → IsFirm lab (r ∷ H) n c
-  step H r g honest off firm spared shut =
+  step H {r} g honest off firm spared shut =
       let scene : Scene = record { place = place; H = H; r = r; grown = g; honest = honest } in
       record {
         sound = goes_on scene off (record {
@@ -115,5 +115,5 @@ module _ (place : Place) (never : place.c.cone_try ≡ false) where
     by false off l s ih =
         let lost_parts = or_parts (list_any (is_loss_of c.inside) (nat_entries lab c.nat r)) (was_lost lab H n c) l in
         let shut_parts = or_parts (HasBegun H && not (is_open_at lab H r.moment c)) (was_shut HasBegun lab H n c) s in
-        step H r g earlier off
+        step H g earlier off
         (ih lost_parts.1 shut_parts.1) lost_parts.0 shut_parts.0

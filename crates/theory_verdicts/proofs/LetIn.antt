@@ -70,8 +70,8 @@ module _ (place : Place) (H : List Full) (p : IsPastOf (view_of place.lab H plac
       }
 
   -- so there is no other client behind that NAT with that inside endpoint
-  pub one_client : (k : ℕ) (b : ClientNode) → node_at lab.topology k ≡ Some (client b) → c.nat ≡ b.nat → c.inside ≡ b.inside → k ≡ n
-  one_client k b at nats ends_are =
+  pub one_client : (k : ℕ) {b : ClientNode} → node_at lab.topology k ≡ Some (client b) → c.nat ≡ b.nat → c.inside ≡ b.inside → k ≡ n
+  one_client k {b} at nats ends_are =
       let in_ = answer_is_let_in in
       let also : IsLetIn lab H (now H) d.dst answered_at b = record {
         outer = in_.outer;

@@ -51,9 +51,21 @@ is_out_entry inside dst (y ∷ h) x f = by (is_out_to inside dst y) refl f (is_o
   by true e g ih = ap (is_out_to inside dst) (sym (some_entry y x g)) ∙ e
   by false e g ih = ih g
 
+-- a question that counts, and the port that it opened
+pub record AskedPort (v : View) : Type 0 where
+  pub p : IsPastOf v
+  pub o : Ep
+  pub d : Outward
+  pub c : Has (counts_in v) d
+  pub left : d.inside ≡ v.inside
+  pub asked : Asked v.nat.kind v.server d
+  pub external : o.ip ≡ v.nat.external
+  pub port : o.port ≡ d.port
+
 -- open by a datagram that counts and asked the server, or by a later one that went there
-module _ (v : View) (p : IsPastOf v) (o : Ep) (d : Outward) (c : Has (counts_in v) d) (left : d.inside ≡ v.inside)
-    (asked : Asked v.nat.kind v.server d) (external : o.ip ≡ v.nat.external) (port : o.port ≡ d.port) where
+module _ {v : View} (port_asked : AskedPort v) where
+  open port_asked use {p, o, d, c, left, asked, external, port}
+
   -- by the later one
   by_later : (e : Outward) → latest_ask v ≡ Some (Out e) → d.moment.0 < e.moment.0 → IsOpen v o
   by_later e f lt =
@@ -102,7 +114,7 @@ pub record IsNext (v : View) (added : List NatEntry) (m : ℕ) : Type 0 where
   pub spared : list_any (is_loss_of v.inside) added ≡ false
 
 -- what is open stays open, where the latest datagram to the server is young
-module _ (v : View) (added : List NatEntry) (m : ℕ) (next : IsNext v added m) (o : Ep) (is : IsOpen v o) where
+module _ {v : View} {added : List NatEntry} {m : ℕ} (next : IsNext v added m) {o : Ep} (is : IsOpen v o) where
   still_young : (q : Option NatEntry) → latest_ask v ≡ q → is_young_out v.nat.idle m q ≡ true → is_young v.nat.idle m is.datagram ≡ true
   still_young None f y = absurd (false≢true y)
   still_young (Some (Out e)) f y = younger_too v.nat.idle m is.datagram e (is.latest e f) y
@@ -117,7 +129,7 @@ module _ (v : View) (added : List NatEntry) (m : ℕ) (next : IsNext v added m) 
         (still_young (latest_ask v) refl young)
 
     pub stays_open : IsOpen (grown v added m) o
-    stays_open = opens (grown v added m) next.past o is.datagram still_counts is.left is.asked is.external is.port
+    stays_open = opens (record { p = next.past; o = o; d = is.datagram; c = still_counts; left = is.left; asked = is.asked; external = is.external; port = is.port })
 
 -- THE CONE PHASE
 

@@ -11,27 +11,27 @@ module _ (lab : Lab) (H : List Full) (m : ℕ) (P : Ep → Type 0) where
   abbrev GoTo : List Passing → Type 0
   GoTo passed = AllByRecursion (λ (p : Passing). P p.datagram.dst) passed
 
-  crossed : (way : List ℕ) (dst from : Ep) (passed : List Passing) → P dst → GoTo passed
+  crossed : (way : List ℕ) {dst : Ep} (from : Ep) (passed : List Passing) → P dst → GoTo passed
       → GoTo (crossing lab.topology (nat_pasts lab H) m dst way from passed).passed
-  crossed [] dst from passed to on = on
-  crossed (j ∷ way) dst from passed to on = by (nat_answer (nat_set_up lab.topology j) (after_passing passed (nat_pasts lab H) j) m from dst)
-      (λ (f : Ep) (ps : List Passing). crossed way dst f ps to) where
+  crossed [] from passed to on = on
+  crossed (j ∷ way) {dst} from passed to on = by (nat_answer (nat_set_up lab.topology j) (after_passing passed (nat_pasts lab H) j) m from dst)
+      (λ (f : Ep) (ps : List Passing). crossed way f ps to) where
         by : (r : Result ℕ NatRefusal) → ((f : Ep) (ps : List Passing) → GoTo ps → GoTo (crossing lab.topology (nat_pasts lab H) m dst way f ps).passed)
             → GoTo (answered lab.topology m j from dst passed (crossing lab.topology (nat_pasts lab H) m dst way) r).passed
         by (Ok port) ih = ih (record { ip = (nat_set_up lab.topology j).external; port = port }) (passing j m from dst port ∷ passed) (to, on)
         by (Err why) ih = on
 
-  crossed_unless : (fails : Bool) (way : List ℕ) (dst from : Ep) (passed : List Passing) → P dst → GoTo passed
+  crossed_unless : (fails : Bool) (way : List ℕ) {dst : Ep} (from : Ep) (passed : List Passing) → P dst → GoTo passed
       → GoTo (crossing_unless fails lab H m dst way from passed).passed
-  crossed_unless true way dst from passed to on = crossed [] dst from passed to on
-  crossed_unless false way dst from passed to on = crossed way dst from passed to on
+  crossed_unless true way {dst} from passed to on = crossed [] from passed to on
+  crossed_unless false way {dst} from passed to on = crossed way from passed to on
 
   all_sent : (way : List ℕ) (inside : Ep) (fails : Option ℕ) (i : ℕ) (passed : List Passing) (xs : List Send) → AllByRecursion (λ (x : Send). P x.to) xs
       → GoTo passed → GoTo (by_way lab H m way inside fails i passed xs).passed
   all_sent way inside fails i passed [] to on = on
   all_sent way inside fails i passed (x ∷ xs) to on =
       all_sent way inside fails (i + 1) (crossing_unless (is_at_place i fails) lab H m x.to way inside passed).passed xs to.1
-      (crossed_unless (is_at_place i fails) way x.to inside passed to.0 on)
+      (crossed_unless (is_at_place i fails) way inside passed to.0 on)
 
 -- so what one NAT let out does
 out_to : (P : Ep → Type 0) (k : ℕ) (passed : List Passing) (d : Outward) → AllByRecursion (λ (p : Passing). P p.datagram.dst) passed

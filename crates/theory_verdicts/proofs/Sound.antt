@@ -38,14 +38,14 @@ IsSoundIn v cone_try OffLine kept address = Unit {0}
 -- WHAT THE NAT KEEPS
 
 -- what is so stays so
-module _ (v : View) (added : List NatEntry) (m : ℕ) (next : IsNext v added m) (b : Bool) (k : Option Ep) (a : Option Ip6) where
+module _ {v : View} {added : List NatEntry} {m : ℕ} (next : IsNext v added m) (b : Bool) (k : Option Ep) (a : Option Ip6) where
   address_stays : (o : Option Ip6) → is_young_out v.nat.idle m (latest_ask v) ≡ true → GoodAddress v b o → GoodAddress (grown v added m) b o
   address_stays None young is = is
-  address_stays (Some own) young is = record { opened = stays_open v added m next (embedded own) is.opened young; plain = is.plain; cone = is.cone }
+  address_stays (Some own) young is = record { opened = stays_open next is.opened young; plain = is.plain; cone = is.cone }
 
   origin_stays : (o : Option Ep) → is_young_out v.nat.idle m (latest_ask v) ≡ true → OpenOrigin v o → OpenOrigin (grown v added m) o
   origin_stays None young is = is
-  origin_stays (Some e) young is = stays_open v added m next e is young
+  origin_stays (Some e) young is = stays_open next is young
 
   -- what a phase says stays so, where the server is let in if the phase rests on that
   pub stays_sound : (ph : Phase) → (is_resting ph ≡ true → is_young_out v.nat.idle m (latest_ask v) ≡ true)
@@ -60,7 +60,21 @@ module _ (v : View) (added : List NatEntry) (m : ℕ) (next : IsNext v added m) 
 
 -- TURNS THAT NO ADVERTISEMENT BRINGS
 
-module _ (s : Settings) (v : View) (b : Bool) (u : Turn) (w : Option ℕ) (o k : Option Ep) (a : Option Ip6) (h : is_told u ≡ false) where
+-- a turn by which a client is told nothing
+pub record ToldNothing : Type 0 where
+  pub s : Settings
+  pub v : View
+  pub b : Bool
+  pub u : Turn
+  pub w : Option ℕ
+  pub o : Option Ep
+  pub k : Option Ep
+  pub a : Option Ip6
+  pub h : is_told u ≡ false
+
+module _ (told_nothing : ToldNothing) where
+  open told_nothing use {s, v, b, u, w, o, k, a, h}
+
   goes_on : (p : Phase) → begins u ≡ None → IsSoundIn v b p k a → IsSoundIn v b p (kept_then p u o k) (address_then s p u w o a)
   goes_on Cone e i = i
   goes_on Restricted e i = tt

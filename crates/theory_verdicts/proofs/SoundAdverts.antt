@@ -71,14 +71,14 @@ module _ (the : AdvertTold) where
   in_cone w tries alone in_ =
       let a = was_asked v (server_ep s.secondary) dst p in_ in
       let cone = only_cone v.nat.kind s.primary s.secondary a.datagram apart (alone a.datagram a.counts a.left ∙ asks) a.asked in
-      good true w (opens v p dst a.datagram a.counts a.left (cone_asked v.nat.kind v.server a.datagram cone) in_.external a.port)
+      good true w (opens (record { p = p; o = dst; d = a.datagram; c = a.counts; left = a.left; asked = cone_asked v.nat.kind v.server a.datagram cone; external = in_.external; port = a.port }))
       (cone_is_plain v.nat.kind cone) (λ h. (cone, tries))
 
   -- in phase Restricted, from the primary address
   in_restricted : IsLetInAt v (server_ep s.primary) dst → IsOpen v dst
   in_restricted in_ =
       let a = was_asked v (server_ep s.primary) dst p in_ in
-      opens v p dst a.datagram a.counts a.left (subst (λ (e : Ep). Asked v.nat.kind e a.datagram) (sym asks) a.asked) in_.external a.port
+      opens (record { p = p; o = dst; d = a.datagram; c = a.counts; left = a.left; asked = subst (λ (e : Ep). Asked v.nat.kind e a.datagram) (sym asks) a.asked; external = in_.external; port = a.port })
 
   -- in phase Secondary, from the secondary address: a NAT that isn't symmetric lets it in where the first answer came
   plain_same : (o : Ep) → is_symmetric v.nat.kind ≡ false → IsOpen v o → IsLetInAt v (server_ep s.secondary) dst → same_ep dst o ≡ true
@@ -148,11 +148,11 @@ module _ (the : AdvertTold) where
     by_refresh src k (Some own) is in_ true = is
     by_refresh src k (Some own) is in_ false = in_qualified src w own is in_
 
-    pub told : (q : Qualification) (cone : Bool) (ph : Phase) → IsSoundIn v b ph q.kept q.address → IsLetInAt v (expected_in s ph cone) dst → (same : Bool)
+    pub told : (q : Qualification) (cone : Bool) (ph : Phase) → IsSoundIn v b ph q.kept q.address → IsLetInAt v (expected_in s ph cone) dst → {same : Bool}
         → is_same_origin (Some dst) (origin_before q ph) ≡ same → After ph q.kept q.address (phase_line ph same)
-    told q cone Cone i in_ same e = in_cone w i.0 i.1 in_
-    told q cone Restricted i in_ same e = in_restricted in_
-    told q cone Secondary i in_ same e = by_second q.kept q.address i in_ same e
-    told q cone Qualified i in_ same e = by_refresh (expected_in s Qualified cone) q.kept q.address i in_ same
-    told q cone Symmetric i in_ same e = i
-    told q cone OffLine i in_ same e = tt
+    told q cone Cone i in_ e = in_cone w i.0 i.1 in_
+    told q cone Restricted i in_ e = in_restricted in_
+    told q cone Secondary i in_ {same} e = by_second q.kept q.address i in_ same e
+    told q cone Qualified i in_ {same} e = by_refresh (expected_in s Qualified cone) q.kept q.address i in_ same
+    told q cone Symmetric i in_ e = i
+    told q cone OffLine i in_ e = tt

@@ -12,19 +12,19 @@ use Rattle.theory_verdicts.proofs.Begins.{Concerns, own, others, concerns}
 use Rattle.theory_verdicts.proofs.Phases.{untold_same}
 
 -- a NAT that isn't symmetric lets in where the address is
-module _ (s : Settings) (v : View) (b : Bool) (p : IsPastOf v) (dst : Ep) where
-  at_address : (src : Ep) (address : Ip6) → IsGoodAddress v b address → IsLetInAt v src dst → same_ep dst (embedded address) ≡ true
-  at_address src address is in_ =
+module _ (s : Settings) {v : View} (b : Bool) (p : IsPastOf v) (dst : Ep) where
+  at_address : {src : Ep} {address : Ip6} → IsGoodAddress v b address → IsLetInAt v src dst → same_ep dst (embedded address) ≡ true
+  at_address {src} {address} is in_ =
       let a = was_asked v src dst p in_ in
       let o = is.opened in
       same_of dst (embedded address) (in_.external ∙ sym o.external) (a.port ∙ plain_one_port v a.datagram o.datagram is.plain p
       (record { counts = a.counts; left = a.left }) (record { counts = o.counts; left = o.left }) ∙ sym o.port)
 
-  by_refresh : (src : Ep) (a : Option Ip6) → GoodAddress v b a → IsLetInAt v src dst → (same : Bool)
+  by_refresh : {src : Ep} (a : Option Ip6) → GoodAddress v b a → IsLetInAt v src dst → (same : Bool)
       → is_same_origin (Some dst) (option_map embedded a) ≡ same → is_changed (phase_line Qualified same) ≡ false
-  by_refresh src a is in_ true e = refl
-  by_refresh src None is in_ false e = absurd is
-  by_refresh src (Some address) is in_ false e = absurd (false≢true (sym e ∙ at_address src address is in_))
+  by_refresh a is in_ true e = refl
+  by_refresh None is in_ false e = absurd is
+  by_refresh {src} (Some address) is in_ false e = absurd (false≢true (sym e ∙ at_address is in_))
 
   -- so no advertisement changes it
   pub told_same : (q : Qualification) (cone : Bool) (ph : Phase) → IsSoundIn v b ph q.kept q.address → IsLetInAt v (expected_in s ph cone) dst
@@ -33,7 +33,7 @@ module _ (s : Settings) (v : View) (b : Bool) (p : IsPastOf v) (dst : Ep) where
   told_same q cone Restricted i in_ same e = refl
   told_same q cone Secondary i in_ true e = refl
   told_same q cone Secondary i in_ false e = refl
-  told_same q cone Qualified i in_ same e = by_refresh (expected_in s Qualified cone) q.address i in_ same e
+  told_same q cone Qualified i in_ same e = by_refresh q.address i in_ same e
   told_same q cone Symmetric i in_ same e = refl
   told_same q cone OffLine i in_ same e = refl
 
@@ -50,8 +50,8 @@ module _ (scene : Scene) (off : starts scene.place.n scene.r ≡ false) where
   of_turn : (e : Entry) → IsActOf lab H r n (client c) e → IsSound lab H n c → (b : Bool) → is_told (turn_of e) ≡ b → is_changed e.step.fate ≡ false
   of_turn e act i false h = untold_same e.step.fate h
   of_turn e act i true h =
-      let t = is_told_at scene e act h in
-      ap (λ (f : Fate). is_changed f) (sym t.phase) ∙ told_same s (view_of lab H c) c.cone_try (past_before scene) t.dst q
+      let t = is_told_at scene act h in
+      ap (λ (f : Fate). is_changed f) (sym t.phase) ∙ told_same s c.cone_try (past_before scene) t.dst q
       (is_cone q) q.phase i (as_expected s q (view_of lab H c) t.dst t.let_in) (is_same_origin (Some t.dst) (origin_before q q.phase)) refl
 
   abbrev Same : Journal → Type 0

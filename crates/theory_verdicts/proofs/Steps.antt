@@ -42,7 +42,7 @@ module _ (scene : Scene) where
   own_record d new counts left =
       let w = whose lab r c.nat (nat_entries lab c.nat r) d place.flat (nat_grows lab H r c.nat scene.grown.0) new in
       let at : node_at lab.topology w.number ≡ Some (client w.row) = client_is_there.node lab.topology w.number w.row w.there in
-      ap_node w.number w.node (one_client place (r ∷ H) past_after d counts left w.number w.row at w.behind
+      ap_node w.number w.node (one_client place (r ∷ H) past_after d counts left w.number at w.behind
       (sym left ∙ w.sender))
     where
       ap_node : (k : ℕ) → r.node ≡ Some k → k ≡ n → r.node ≡ Some n
@@ -57,12 +57,12 @@ module _ (scene : Scene) where
   left_alone calm same none i =
       subst (λ (j : Journal). IsSoundIn (view_of lab (r ∷ H) c) c.cone_try (qualification s j).phase (qualification s j).kept (qualification s j).address)
       (sym same)
-      (stays_sound (view_of lab H c) (nat_entries lab c.nat r) r.moment (next calm) c.cone_try q.kept q.address q.phase calm.server_open
+      (stays_sound (next calm) c.cone_try q.kept q.address q.phase calm.server_open
       (λ _ d new counts left. absurd (none d new counts left)) i)
 
   -- A RECORD OF THE CLIENT
 
-  module _ (e : Entry) (act : IsActOf lab H r n (client c) e) where
+  module _ {e : Entry} (act : IsActOf lab H r n (client c) e) where
     is_journal : IsJournal s (with_entry (journal n H) e)
     is_journal = subst (IsJournal s) act.later (client_journals lab (r ∷ H) n c scene.grown place.there).journal
 
@@ -152,7 +152,7 @@ module _ (scene : Scene) where
           is_ep = t.made;
         } in
         let after = told the w q (is_cone q) q.phase i
-        (as_expected s q (view_of lab H c) t.dst t.let_in) (is_same_origin (Some t.dst) (origin_before q q.phase)) refl in
+        (as_expected s q (view_of lab H c) t.dst t.let_in) {same = (is_same_origin (Some t.dst) (origin_before q q.phase))} refl in
         let by_fate = subst (After the w q.phase q.kept q.address) t.phase after in
         let by_input = subst (λ (o : Option Ep). IsSoundIn (view_of lab H c) c.cone_try (unwrap_or (begins (turn_of e)) q.phase)
         (kept_then q.phase (turn_of e) o q.kept) (address_then s q.phase (turn_of e) w o q.address)) (sym t.origin) by_fate in
@@ -200,13 +200,21 @@ module _ (scene : Scene) where
     -- any other entry
     of_rest : IsCalm lab H r n c → is_told (turn_of e) ≡ false → IsSound lab H n c → IsSound lab (r ∷ H) n c
     of_rest calm h i =
-        let stays : IsSoundIn (view_of lab (r ∷ H) c) c.cone_try q.phase q.kept q.address = stays_sound (view_of lab H c)
-        (nat_entries lab c.nat r) r.moment (next calm) c.cone_try q.kept q.address q.phase calm.server_open
+        let stays : IsSoundIn (view_of lab (r ∷ H) c) c.cone_try q.phase q.kept q.address = stays_sound (next calm) c.cone_try q.kept q.address q.phase calm.server_open
         (λ cone d new counts left. act_out (λ (x : Ep). x ≡ asks_at lab c) (record { lab = lab; past = H; full = r; number = n; row = c; entry = e; act = act })
         c.nat d
         (all_sends cone h e.step.sends (each_send s (journal n H) e is_journal)) new) i in
-        entry_then (view_of lab (r ∷ H) c) (untold s (view_of lab (r ∷ H) c) c.cone_try (turn_of e) (flags_word s e.words)
-        (origin_given e.input) q.kept q.address h q.phase stays)
+        entry_then (view_of lab (r ∷ H) c) (untold (record {
+          s = s;
+          v = view_of lab (r ∷ H) c;
+          b = c.cone_try;
+          u = turn_of e;
+          w = flags_word s e.words;
+          o = origin_given e.input;
+          k = q.kept;
+          a = q.address;
+          h = h;
+        }) q.phase stays)
 
     pub of_client : IsCalm lab H r n c → IsSound lab H n c → IsSound lab (r ∷ H) n c
     of_client calm i = by (is_told (turn_of e)) refl where

@@ -20,15 +20,21 @@ place_of lab n c flat is listed = record {
 -- undisturbed clients
 each_is_right : EachIsRight
 each_is_right lab H n c flat is g honest there calm =
-    right lab H n c (set_up_past lab H c.nat g)
-    (fine (place_of lab n c flat is there) H g honest calm.began calm.lasts calm.server_open).sound
+    right (record {
+      lab = lab;
+      H = H;
+      n = n;
+      c = c;
+      p = set_up_past lab H c.nat g;
+      i = (fine (place_of lab n c flat is there) H g honest calm.began calm.lasts calm.server_open).sound;
+    })
 
 -- clients without the cone phase
 each_is_right_without_cone : EachIsRightWithoutCone
 each_is_right_without_cone lab H n c flat is g honest there never calm =
     let place = place_of lab n c flat is there in
     let f = firm place never H g honest calm.lasts calm.server_open in
-    right_without_cone lab H n c (set_up_past lab H c.nat g) f.sound
+    right_without_cone (record { lab = lab; H = H; n = n; c = c; p = set_up_past lab H c.nat g; i = f.sound })
     never (qualified_has_address (client_settings lab.topology c) (journal n H) (client_journals lab H n c g place.there).journal)
 
 -- addresses stay

@@ -42,7 +42,7 @@ module _ (scene : Scene) (off : starts scene.place.n scene.r ≡ false) where
     of_turn : (e : Entry) → IsActOf lab H r n (client c) e → (b : Bool) → is_told (turn_of e) ≡ b
         → is_early (qualification (client_settings lab.topology c) (with_entry (journal n H) e)).phase ≡ true
     of_turn e act true h =
-        let t = is_told_at scene e act h in
+        let t = is_told_at scene act h in
         let a = was_asked (view_of lab H c) (expected (client_settings lab.topology c) (standing lab H n c)) t.dst
         (past_before scene) t.let_in in
         absurd (u.unseen a.datagram a.counts a.left)
@@ -68,10 +68,10 @@ module _ (place : Place) where
   HasSent before = has_sent lab before n c
 
   -- one record more
-  step : (H : List Full) (r : Full) → Grown lab (r ∷ H) → are_honest_for lab.topology c H ≡ true → starts n r ≡ false → IsFine lab H n c
+  step : (H : List Full) {r : Full} → Grown lab (r ∷ H) → are_honest_for lab.topology c H ≡ true → starts n r ≡ false → IsFine lab H n c
       → (list_any (is_loss_of c.inside) (nat_entries lab c.nat r)) ≡ false → (has_sent lab H n c && not (is_open_at lab H r.moment c)) ≡ false
       → IsFine lab (r ∷ H) n c
-  step H r g honest off fine spared shut = record {
+  step H {r} g honest off fine spared shut = record {
     sound = goes_on scene off (record {
       spared = spared;
       server_open = λ rests. open_of (has_sent lab H n c) (is_open_at lab H r.moment c) (sent rests (has_sent lab H n c) refl) shut;
@@ -112,5 +112,5 @@ module _ (place : Place) where
     by false off b l s ih =
         let lost_parts = or_parts (list_any (is_loss_of c.inside) (nat_entries lab c.nat r)) (was_lost lab H n c) l in
         let shut_parts = or_parts (has_sent lab H n c && not (is_open_at lab H r.moment c)) (was_shut HasSent lab H n c) s in
-        step H r g before off
+        step H g before off
         (ih b lost_parts.1 shut_parts.1) lost_parts.0 shut_parts.0

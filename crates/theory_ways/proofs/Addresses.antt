@@ -4,9 +4,9 @@ use Rattle.theory_ways.proofs.chains.Nats.{has_own}
 use Rattle.theory_ways.proofs.inwards.Inside.{one_end}
 
 -- two clients to which datagrams to one endpoint are let in are one
-pub one_client : (lab : Lab) (H : List Full) {m : ℕ} {src src' dst : Ep} (i j : ℕ) {a b : ClientNode} → IsTopology lab.topology
+pub one_client : {lab : Lab} (H : List Full) {m : ℕ} {src src' dst : Ep} (i j : ℕ) {a b : ClientNode} → IsTopology lab.topology
     → client_at lab.topology i ≡ Some a → client_at lab.topology j ≡ Some b → IsLetIn lab H m src dst a → IsLetIn lab H m src' dst b → i ≡ j
-one_client lab H {m} {src} {src'} {dst} i j {a} {b} is at at' in_ in' =
+one_client {lab} H {m} {src} {src'} {dst} i j {a} {b} is at at' in_ in' =
     let t = lab.topology in
     let outer : in_.outer ≡ in'.outer = addresses_are_apart t in_.outer in'.outer (nat in_.row) (nat in'.row) dst.ip is in_.there in'.there
     (has_own dst.ip in_.row in_.external) (has_own dst.ip in'.row in'.external) in
@@ -28,5 +28,5 @@ one_client lab H {m} {src} {src'} {dst} i j {a} {b} is at at' in_ in' =
 -- so two that are settled with one endpoint are one
 pub addresses_differ : AddressesDiffer
 addresses_differ lab H i j a b own other is at at' s s' same =
-    one_client lab H i j is at at' s.reached
+    one_client H i j is at at' s.reached
     (subst (λ (e : Ep). IsLetIn lab H (now H) (asks_at lab b) e b) (sym same) s'.reached)

@@ -5,9 +5,9 @@ use Rattle.theory_ways.proofs.chains.Climbs.{enters_past}
 use Rattle.theory_ways.proofs.inwards.Enters.{is_let_in}
 
 -- who is let in at a port of a NAT that isn't symmetric holds it towards everybody
-pub holds : (s : NatSettings) (h : List NatEntry) (n : ℕ) → IsPast s h n → is_symmetric s.kind ≡ false
-    → (src : Ep) (port : ℕ) (inside : Ep) → lets_in s h n src port ≡ Some inside → (dst : Ep) → live_port s.kind inside dst (live_after s h n) ≡ Some port
-holds s h n p plain src port inside enters dst =
+pub holds : {s : NatSettings} {h : List NatEntry} {n : ℕ} → IsPast s h n → is_symmetric s.kind ≡ false
+    → (src : Ep) (port : ℕ) {inside : Ep} → lets_in s h n src port ≡ Some inside → (dst : Ep) → live_port s.kind inside dst (live_after s h n) ≡ Some port
+holds {s} {h} {n} p plain src port {inside} enters dst =
     let w : WasAsked s h n src port inside = (let_in_where_asked s h n p src port inside).0 enters in
     let held = counting_datagram_holds_its_port s h n p w.datagram w.counts in
     let own = subst (λ (e : Ep). live_port s.kind e w.datagram.dst (live_after s h n) ≡ Some w.datagram.port) w.left held in
@@ -30,7 +30,7 @@ settled_behind_one lab H n c own flat is g at s =
       address = s.address;
       kind = plain;
       external = subst (λ (e : Ep). e.ip ≡ (nat_behind lab c).external) at_its in_.1;
-      port = holds (nat_behind lab c) (past_of_nat lab H c) (now H) (set_up_past lab H k g) plain (asks_at lab c) (embedded own).port c.inside reached
+      port = holds (set_up_past lab H k g) plain (asks_at lab c) (embedded own).port reached
           (asks_at lab c);
       reached = reached;
       cone = λ has. (and_parts (is_cone_kind (nat_behind lab c).kind) true

@@ -28,6 +28,7 @@ mod ComingViews
 mod WithinFacts
 mod OtherwiseFacts
 mod ShutFacts
+mod MovedFacts
 mod SenderViews
 mod OutsideViews
 mod OutsideFacts

@@ -46,7 +46,7 @@ unfolding playing
 guessed-goes = record { packet = refl; short = omega arith; no_bubble = refl; source = refl; destination = refl }
 
 pub guessed-is-next : IsNextByWord (lab kind.Port) guessed_history 3 2 4 (client client_row) (native host_row) own_x word.Barred
-guessed-is-next = next_by_word (lab kind.Port) 2 4 (client client_row) (native host_row) refl refl own_x tt word.Barred 3 guessed_history _ guessed-seen
+guessed-is-next = next_by_word (lab kind.Port) 2 4 (client client_row) (native host_row) refl refl own_x tt word.Barred 3 guessed_history guessed-seen
     (record { word = refl; node = refl; input = refl; packet = guessed-goes; fresh = refl; nothing = refl })
 
 -- what the record of the packet draws, and that the client speaks to its server
@@ -110,7 +110,7 @@ unfolding playing reach_of relayed is_settled is_led_to speaks_to
 held-seen = refl
 
 pub held-is-next : IsNextByWord (lab kind.Cone) held_history 6 4 2 (native host_row) (client client_row) to_cone_x word.Full
-held-is-next = next_by_word (lab kind.Cone) 4 2 (native host_row) (client client_row) refl refl to_cone_x to_cone-no-reply word.Full 6 held_history _ held-seen
+held-is-next = next_by_word (lab kind.Cone) 4 2 (native host_row) (client client_row) refl refl to_cone_x to_cone-no-reply word.Full 6 held_history held-seen
     (record { word = refl; node = refl; input = refl; packet = to_cone-goes; fresh = refl; nothing = refl })
 
 -- what the client holds then, the finer word, and that without the four packets it would be another one; and the relay need not ask

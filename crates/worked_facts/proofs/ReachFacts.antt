@@ -1,5 +1,5 @@
 -- Who reaches whom in a worked laboratory, computed: with one NAT behind another and without, and after its relay was restarted.
-use Rattle.worked_facts.proofs.Words.{ClientNode, Event, Full, Lab, List, NatKind, NatNode, Some, TopologyState, [], codes, decimal, ep, false, ip, ip6, is_led_to, is_settled, lab_on, name1, name2, play_in, playing, reach_lines, reach_of, refl, some_words, speaks_to, true, two_clients, ℕ, ◌++◌, ◌+◌, ◌∷◌, ◌≡◌}
+use Rattle.worked_facts.proofs.Words.{ClientNode, Event, Full, Lab, List, NatKind, NatNode, Some, TopologyState, [], bubbles_stray, codes, decimal, ep, false, ip, ip6, is_led_to, is_settled, lab_on, name1, name2, play_in, playing, reach_lines, reach_of, refl, some_words, speaks_to, strays_to, true, two_clients, ℕ, ◌++◌, ◌+◌, ◌∷◌, ◌≡◌}
 use Rattle.nat_kinds.specs.declared.kind.NatKind.TheVariants as kind
 use Rattle.events.specs.declared.event.Event.TheVariants as event
 use Rattle.events.specs.declared.target.Target.TheVariants as target
@@ -13,7 +13,7 @@ abbrev home_nat : ℕ → NatKind → NatNode
 home_nat i k = record { name = name2 110 (48 + i); kind = k; external = ip 198 51 100 i; idle = 60000 }
 
 -- the client with a letter, behind a NAT
-abbrev home_client : ℕ → ℕ → ℕ → ClientNode
+abbrev pub home_client : ℕ → ℕ → ℕ → ClientNode
 home_client letter nat host = record {
   name = name1 letter;
   nat = nat;
@@ -35,7 +35,7 @@ four_homes = record {
 }
 
 -- all find out what NAT they have; then the first client sends to the native host, all of which is delivered
-abbrev acquainted : List Event → List Event
+abbrev pub acquainted : List Event → List Event
 acquainted rest = event.Advance 0 ∷ event.Settle ∷ event.Advance 12000 ∷ event.Settle ∷ event.Advance 0 ∷ event.Settle
     ∷ event.Host 5 (target.Node 10) (1 ∷ []) ∷ event.Settle ∷ rest
 
@@ -84,7 +84,7 @@ pub with_chain : reach_lines behind_third (played behind_third waiting)
     ∷ codes "h1 d away\n"
     ∷ total_text 20 9 11 0
     ∷ []
-unfolding playing reach_of two_clients relayed is_settled is_led_to speaks_to
+unfolding playing reach_of two_clients relayed is_settled is_led_to speaks_to bubbles_stray strays_to
 with_chain = refl
 
 -- where the relay was restarted instead it knows nobody: it drops what the first client sends to it at once, and it would have to ask
@@ -115,14 +115,14 @@ pub after_restart : reach_lines behind_third (played behind_third forgetful)
     ∷ codes "h1 d away\n"
     ∷ total_text 20 8 12 0
     ∷ []
-unfolding playing reach_of two_clients relayed is_settled is_led_to speaks_to
+unfolding playing reach_of two_clients relayed is_settled is_led_to speaks_to bubbles_stray strays_to
 after_restart = refl
 
 -- where no NAT is behind another one the first two clients reach each other
 pub without_chain : reach_of apart (played apart waiting) 5 6 ≡ Some word.Within1
-unfolding playing reach_of two_clients relayed is_settled is_led_to speaks_to
+unfolding playing reach_of two_clients relayed is_settled is_led_to speaks_to bubbles_stray strays_to
 without_chain = refl
 
 pub without_chain_back : reach_of apart (played apart waiting) 6 5 ≡ Some word.Within4
-unfolding playing reach_of two_clients relayed is_settled is_led_to speaks_to
+unfolding playing reach_of two_clients relayed is_settled is_led_to speaks_to bubbles_stray strays_to
 without_chain_back = refl

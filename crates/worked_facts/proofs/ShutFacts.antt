@@ -1,6 +1,6 @@
 -- Two words that say that a packet doesn't come, computed: `stale` of a native host that is fresh at the client, but trusted elsewhere than at
 -- its relay; and `barred` of a client on one that may not try at it yet.
-use Rattle.worked_facts.proofs.Words.{Full, GoesBetween, Ip6, IsShut, Lab, List, Scenario, Some, [], arith, client, drop, ep, flat_lab, given, ip, ip6, is_led_to, is_settled, is_trusted_at, known_by, meeting, native, play, playing, reach_of, refl, some_words, speaks_to, take, true, two_clients, ℕ, ◌∷◌, ◌≡◌}
+use Rattle.worked_facts.proofs.Words.{Full, GoesBetween, Ip6, IsShut, Lab, List, Scenario, Some, [], arith, bubbles_stray, client, drop, ep, flat_lab, given, ip, ip6, is_led_to, is_settled, is_trusted_at, known_by, meeting, native, play, playing, reach_of, refl, some_words, speaks_to, strays_to, take, true, two_clients, ℕ, ◌∷◌, ◌≡◌}
 use Rattle.nat_kinds.specs.declared.kind.NatKind.TheVariants as kind
 use Rattle.teredo_node.specs.declared.fate.Fate.TheVariants as fate
 use Rattle.events.specs.declared.event.Event.TheVariants as event
@@ -42,7 +42,7 @@ unfolding playing reach_of relayed is_settled is_led_to speaks_to
 stolen-seen = refl
 
 pub stolen-is-next : IsNextByWord (lab kind.Cone) stolen_history 2 4 2 (native host_row) (client client_row) to_cone_x word.Stale
-stolen-is-next = next_by_word (lab kind.Cone) 4 2 (native host_row) (client client_row) refl refl to_cone_x to_cone-no-reply word.Stale 2 stolen_history _ stolen-seen
+stolen-is-next = next_by_word (lab kind.Cone) 4 2 (native host_row) (client client_row) refl refl to_cone_x to_cone-no-reply word.Stale 2 stolen_history stolen-seen
     (record { word = refl; node = refl; input = refl; packet = to_cone-goes; fresh = refl; nothing = refl })
 
 -- where the client trusts the host then
@@ -91,7 +91,7 @@ pub tried-seen : next_seen two 3 4 3 tried_history ≡ Some (record {
   left = [];
   fates = fate.Barred ∷ fate.ForwardOrigin ∷ fate.NatClosed ∷ [];
 })
-unfolding playing reach_of two_clients is_settled is_led_to speaks_to
+unfolding playing reach_of two_clients is_settled is_led_to speaks_to bubbles_stray strays_to
 tried-seen = refl
 
 pub tried-goes : GoesBetween a_own b_own tried_x
@@ -99,7 +99,7 @@ unfolding playing
 tried-goes = record { packet = refl; short = omega arith; no_bubble = refl; source = refl; destination = refl }
 
 pub tried-is-next : IsNextByWord two tried_history 3 3 4 (client a) (client b) tried_x word.Barred
-tried-is-next = next_by_word two 3 4 (client a) (client b) refl refl tried_x tt word.Barred 3 tried_history _ tried-seen
+tried-is-next = next_by_word two 3 4 (client a) (client b) refl refl tried_x tt word.Barred 3 tried_history tried-seen
     (record { word = refl; node = refl; input = refl; packet = tried-goes; fresh = refl; nothing = refl })
 
 pub tried-over : is_nothing_over (take 3 tried_history) ≡ true

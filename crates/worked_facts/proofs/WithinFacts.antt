@@ -41,7 +41,7 @@ unfolding playing reach_of relayed is_settled is_led_to speaks_to
 there-seen = refl
 
 pub there-is-next : IsNextByWord (lab kind.Cone) there_history 2 2 4 (client client_row) (native host_row) from_cone_x word.Within2
-there-is-next = next_by_word (lab kind.Cone) 2 4 (client client_row) (native host_row) refl refl from_cone_x tt word.Within2 2 there_history _ there-seen
+there-is-next = next_by_word (lab kind.Cone) 2 4 (client client_row) (native host_row) refl refl from_cone_x tt word.Within2 2 there_history there-seen
     (record { word = refl; node = refl; input = refl; packet = from_cone-goes; fresh = refl; nothing = refl })
 
 pub there-brought : brought 0 there_history ≡ Some (record { node = Some 4; input = Some (from_six from_cone_x) })
@@ -70,7 +70,7 @@ unfolding playing reach_of relayed is_settled is_led_to speaks_to
 back-seen = refl
 
 pub back-is-next : IsNextByWord (lab kind.Cone) back_history 2 4 2 (native host_row) (client client_row) to_cone_x word.Within2
-back-is-next = next_by_word (lab kind.Cone) 4 2 (native host_row) (client client_row) refl refl to_cone_x to_cone-no-reply word.Within2 2 back_history _ back-seen
+back-is-next = next_by_word (lab kind.Cone) 4 2 (native host_row) (client client_row) refl refl to_cone_x to_cone-no-reply word.Within2 2 back_history back-seen
     (record { word = refl; node = refl; input = refl; packet = to_cone-goes; fresh = refl; nothing = refl })
 
 pub back-brought : handed_over 0 back_history ≡ Some (record { node = Some 2; handed = Some to_cone_x; late = [] })
@@ -103,7 +103,7 @@ unfolding playing reach_of relayed is_settled is_led_to speaks_to
 still-seen = refl
 
 pub still-is-next : IsNextByWord (lab kind.Cone) still_history 2 4 2 (native host_row) (client client_row) to_cone_x word.Within2
-still-is-next = next_by_word (lab kind.Cone) 4 2 (native host_row) (client client_row) refl refl to_cone_x to_cone-no-reply word.Within2 2 still_history _ still-seen
+still-is-next = next_by_word (lab kind.Cone) 4 2 (native host_row) (client client_row) refl refl to_cone_x to_cone-no-reply word.Within2 2 still_history still-seen
     (record { word = refl; node = refl; input = refl; packet = to_cone-goes; fresh = refl; nothing = refl })
 
 pub still-brought : handed_over 0 still_history ≡ Some (record { node = Some 2; handed = Some to_cone_x; late = [] })
@@ -136,7 +136,7 @@ unfolding playing reach_of relayed is_settled is_led_to speaks_to
 anew-seen = refl
 
 pub anew-is-next : IsNextByWord (lab kind.Port) anew_history 5 4 2 (native host_row) (client client_row) to_port_x word.Within5
-anew-is-next = next_by_word (lab kind.Port) 4 2 (native host_row) (client client_row) refl refl to_port_x to_port-no-reply word.Within5 5 anew_history _ anew-seen
+anew-is-next = next_by_word (lab kind.Port) 4 2 (native host_row) (client client_row) refl refl to_port_x to_port-no-reply word.Within5 5 anew_history anew-seen
     (record { word = refl; node = refl; input = refl; packet = to_port-goes; fresh = refl; nothing = refl })
 
 pub anew-brought : handed_over 0 anew_history ≡ Some (record { node = Some 2; handed = Some to_port_x; late = [] })

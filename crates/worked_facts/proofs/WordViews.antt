@@ -96,10 +96,10 @@ pub record IsByWord (n : ℕ) (x : List ℕ) (said : Reach) (s : NextSeen) : Typ
   pub fresh : s.fresh ≡ true
   pub nothing : s.left ≡ []
 
-pub next_by_word : (lab : Lab) (n m : ℕ) (a b : Node) → node_at lab.topology n ≡ Some a → node_at lab.topology m ≡ Some b
-    → (x : List ℕ) → IsNoReply a x → (said : Reach) (i : ℕ) (H : List Full) (s : NextSeen) → next_seen lab n m i H ≡ Some s
+pub next_by_word : {s : NextSeen} (lab : Lab) (n m : ℕ) (a b : Node) → node_at lab.topology n ≡ Some a → node_at lab.topology m ≡ Some b
+    → (x : List ℕ) → IsNoReply a x → (said : Reach) (i : ℕ) (H : List Full) → next_seen lab n m i H ≡ Some s
     → IsByWord n x said s → IsNextByWord lab H i n m a b x said
-next_by_word lab n m a b sender receiver x no_reply said i H s seen by_word =
+next_by_word {s} lab n m a b sender receiver x no_reply said i H seen by_word =
     let it = seen_at (next_of lab n m (drop (suc i) H) H (take i H)) H i s seen in
     let input = was_given it.q.entry (given x) (ap (λ (z : NextSeen). z.input) it.is ∙ by_word.input) in
     record {

@@ -99,7 +99,7 @@ pub use Rattle.theory_reaching.specs.FromNative.{from_native_row}
 pub use Rattle.theory_reaching.specs.Promises.{BringsWithin, ComesWithHeld, IsNoReply, IsOwnTest, IsSentNext, IsShut}
 unfoldable pub use Rattle.theory_reaching.specs.Reach.{reach_of}
 pub use Rattle.theory_reaching.specs.ReachLines.{reach_lines}
-unfoldable pub use Rattle.theory_reaching.specs.Speaks.{is_heard_once_sent, is_of_server, speaks_to, speaks_to_both}
+unfoldable pub use Rattle.theory_reaching.specs.Speaks.{bubbles_stray, is_heard_once_sent, is_of_server, speaks_to, speaks_to_both, strays_to}
 pub use Rattle.theory_reaching.specs.declared.word.Reach.{Reach}
 pub use Rattle.worked_scenarios.proofs.ConeReports.{cone-sends}
 pub use Rattle.worked_scenarios.proofs.MeetingReports.{meeting}

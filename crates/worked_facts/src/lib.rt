@@ -21,6 +21,7 @@
 //! | `FinerFacts` | the finer words of the same laboratory |
 //! | `WithinFacts` | packets between a client and a native host that come by the second delivery or the fifth, as their word says |
 //! | `ShutFacts` | a packet of a native host that is trusted elsewhere, and one for a client that may not try yet: neither comes |
+//! | `MovedFacts` | a packet of a client that got another port at its outer NAT than its address says: it doesn't come |
 //! | `OtherwiseFacts` | packets that come though the word is shut: the test that a record drew itself, and one that the client holds |
 //! | `OutsideFacts` | whence packets from outside Teredo came: at once, and late, where the same bytes came twice |
 //! | `ExplainFacts` | what the server's table makes of a capture whose answer is licensed, and of one whose answer differs in a field |

@@ -34,7 +34,7 @@ abbrev lab_with : Scenario → List Behind → Lab
 lab_with s chain = lab_on (draws s.seed) s.topology chain
 
 -- all records
-abbrev played : Scenario → List Behind → List Full
+abbrev pub played : Scenario → List Behind → List Full
 played s chain = play_in (lab_with s chain) s.events 100 []
 
 -- where each packet went

@@ -5,3 +5,5 @@ mod KeptFacts
 mod ForgottenFacts
 mod FollowFacts
 mod EndedFacts
+mod LostFacts
+mod BytesFacts

@@ -8,4 +8,6 @@
 //! | `ForgottenFacts` | a NAT that forgets a client; a client whose address changes; NATs behind another one |
 //! | `FollowFacts` | packets that arrive, at once and late, that wait, and that are lost on their way |
 //! | `EndedFacts` | packets that end with what was kept: with an address, with the last try, with a restart |
+//! | `LostFacts` | a packet that stays lost, and one whose entry is delivered again; a packet that is answered twice |
+//! | `BytesFacts` | the bytes of a packet that a host handed in, and of a reply |
 #![tactic(auto)]

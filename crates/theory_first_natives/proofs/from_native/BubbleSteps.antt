@@ -48,7 +48,7 @@ module _ (the : TrioRecord) where
         let bubble = reads p is in
         let payload = forwarded_reads_back (bubble_bytes p.r.six own) _ (Some p.r.at) bubble.bytes bubble.payload.read (bubble_small p.r.six own)
         (relay_keeps p is).at in
-        let g = answers_it s j (now H) own p.r.six p.r.at may_answer (told p is) payload bubble.bubble (words p.lab p.a.n H) in
-        let gone = all_leaves p.lab H q p.a heard (sends the heard did) (send p.r.at (bubble_bytes own p.r.six) ∷ []) g.sends
+        let g = answers_it s j (now H) own p.r.six p.r.at may_answer payload bubble.bubble (words p.lab p.a.n H) in
+        let gone = all_leaves (sends the heard did) (send p.r.at (bubble_bytes own p.r.six) ∷ []) g.sends
         (relay_elsewhere p is, tt) in
         (gone.made, gone.back.0, g.indirect, g.about, address_renewed s j heard g.indirect)

@@ -43,7 +43,7 @@ module _ (the : TrioRecord) where
   -- no NAT of the client's way has its server's address
   pub server_far : IsElsewhere p.lab s.primary (nats_of p.lab p.a.c)
   server_far = subst (λ (ip : Ip4). IsElsewhere p.lab ip (nats_of p.lab p.a.c)) is.end.address.of.server_is
-      (server_elsewhere p.lab is.rules p.a p.a is.end is.end)
+      (server_elsewhere (record { lab = p.lab; is = is.rules; a = p.a; b = p.a; an = is.end; bn = is.end }))
 
   -- an address outside Teredo isn't the client's
   pub another : (ip : Ip6) → is_teredo ip ≡ false → same_ip6 ip own ≡ false
@@ -51,8 +51,17 @@ module _ (the : TrioRecord) where
 
   -- A PACKET OF THE NATIVE, FROM THE RELAY
 
+  -- a packet of the host to the client, which is not too big
+  pub record FromHost : Type 0 where
+    pub x : List ℕ
+    pub src : (fields_in x).src ≡ p.h.six
+    pub dst : (fields_in x).dst ≡ own
+    pub little : is_big (fields_in x) ≡ false
+
   -- as which x is read: it is from the native to the client
-  module _ (x : List ℕ) (src : (fields_in x).src ≡ p.h.six) (dst : (fields_in x).dst ≡ own) (little : is_big (fields_in x) ≡ false) where
+  module _ (from_host : FromHost) where
+    open from_host use {x, src, dst, little}
+
     pub from_native : IsFromNative s j p.r.at (fields_in x)
     from_native = record {
       here = subst (λ (z : Ip6). IsHere s j z) (sym dst) (here the);
@@ -75,7 +84,7 @@ module _ (the : TrioRecord) where
     peer_is host = ap (λ (z : Ip6). known (mentions j.entries) (now H) z) src ∙ host.same
 
     testable : HostStays p H → is_trusted_at p.r.at p.of_host ≡ false → is_bubble (fields_in x) ≡ false
-        → is_echo_reply (message_in (fields_in x)) ≡ false → IsTestable s j (now H) p.r.at (fields_in x) from_native (holds_most p.of_host)
+        → is_echo_reply (message_in (fields_in x)) ≡ false → IsTestable (record { s = s; j = j; n = now H; at = p.r.at; p = fields_in x; is = from_native }) (holds_most p.of_host)
     testable host untrusted plain no_reply = record {
       untrusted = ap (is_trusted_at p.r.at) (peer_is host) ∙ untrusted;
       may = subst (MayBeTested (now H)) (sym (peer_is host)) (host.may_test untrusted);
@@ -89,12 +98,12 @@ module _ (the : TrioRecord) where
     pub tests_native : Did p.lab H q p.a.n (client p.a.c) got → HostStays p H → is_trusted_at p.r.at p.of_host ≡ false → is_bubble (fields_in x) ≡ false
         → is_echo_reply (message_in (fields_in x)) ≡ false → ReadsPayload (value_written None None (fields_in x)) x
         → (q.made ≡ sent (udp (embedded own) (asks_at p.lab p.a.c) (test_bytes own p.h.six nonce)) ∷ [])
-        × tests.TestsIt s j (now H) p.r.at (fields_in x) from_native (holds_most p.of_host) x nonce got
+        × tests.TestsIt (record { s = s; j = j; n = now H; at = p.r.at; p = fields_in x; is = from_native }) (holds_most p.of_host) x nonce got
         × ((qualification s (with_entry j got)).address ≡ (qualification s j).address)
     tests_native did host untrusted plain no_reply payload =
-        let g = tests.tests_it s j (now H) p.r.at (fields_in x) from_native (holds_most p.of_host) (testable host untrusted plain no_reply) x payload
+        let g = tests.tests_it (record { s = s; j = j; n = now H; at = p.r.at; p = fields_in x; is = from_native }) (testable host untrusted plain no_reply) payload
         (words p.lab p.a.n H) in
-        let gone = all_leaves p.lab H q p.a got (sends the got did) (send (asks_at p.lab p.a.c) (test_bytes own p.h.six nonce) ∷ [])
+        let gone = all_leaves (sends the got did) (send (asks_at p.lab p.a.c) (test_bytes own p.h.six nonce) ∷ [])
         (g.sends ∙ ap (λ (z : Ip6). send (asks_at p.lab p.a.c) (test_bytes z (fields_in x).src nonce) ∷ []) dst
         ∙ ap (λ (z : Ip6). send (asks_at p.lab p.a.c) (test_bytes own z nonce) ∷ []) src)
         (server_far, tt) in
@@ -110,15 +119,15 @@ module _ (the : TrioRecord) where
     all_elsewhere (w ∷ ws) = (relay_elsewhere p is, all_elsewhere ws)
 
     -- the client believes the native, hands over what it held, and lets go what waits
-    pub hands_packet : Did p.lab H q p.a.n (client p.a.c) got → (n : ℕ) → hands.Waits s j (now H) p.r.at (fields_in x) from_native n
+    pub hands_packet : Did p.lab H q p.a.n (client p.a.c) got → {n : ℕ} → hands.Waits (record { s = s; j = j; n = now H; at = p.r.at; p = fields_in x; is = from_native; nonce = n })
         → message_in (fields_in x) ≡ Some (answer n) → ReadsPayload (value_written None None (fields_in x)) x
-        → hands.HandsLate s j (now H) p.r.at (fields_in x) from_native n got
+        → hands.HandsLate (record { s = s; j = j; n = now H; at = p.r.at; p = fields_in x; is = from_native; nonce = n }) got
         × (q.made ≡ leaves_for_relay p (known (mentions j.entries) (now H) (fields_in x).src).waiting)
         × ((qualification s (with_entry j got)).address ≡ (qualification s j).address)
-    hands_packet did n waits message payload =
-        let g = hands.hands_late_it s j (now H) p.r.at (fields_in x) from_native n waits message x payload (words p.lab p.a.n H) in (
+    hands_packet did {n} waits message payload =
+        let g = hands.hands_late_it (record { s = s; j = j; n = now H; at = p.r.at; p = fields_in x; is = from_native; nonce = n }) waits message payload (words p.lab p.a.n H) in (
           g,
-          (all_leaves p.lab H q p.a got (sends the got did) (releases p.r.at (known (mentions j.entries) (now H) (fields_in x).src).waiting) g.sends
+          (all_leaves (sends the got did) (releases p.r.at (known (mentions j.entries) (now H) (fields_in x).src).waiting) g.sends
               (all_elsewhere (known (mentions j.entries) (now H) (fields_in x).src).waiting)).made,
           address_stays s j got (ap turn g.fate),
         )

@@ -54,7 +54,7 @@ module _ (the : TrioRecord) where
         node = came.did.node;
         calm = came.calm;
         moment = came.did.moment;
-        made = server_tells.passes_on p.lab p.a is.end p.r.six p.r.at (may_tell p is) H q (server_ep b) came.did r.sound
+        made = server_tells.passes_on (record { lab = p.lab; a = p.a; end = is.end; peer = p.r.six; from = p.r.at; may = may_tell p is }) H q (server_ep b) came.did r.sound
             ∙ ap (λ (ip : Ip4). sent (udp (server_ep ip) (embedded own) (told p is)) ∷ []) (sym is.end.primary);
       }
 
@@ -113,7 +113,7 @@ module _ (the : TrioRecord) where
           node = came.did.node;
           calm = came.calm;
           moment = came.did.moment;
-          made = native_echoes p.lab H q p.m p.h (test_of p nonce) came.did (reply_of p nonce)
+          made = native_echoes (record { lab = p.lab; H = H; q = q; m = p.m; h = p.h; x = test_of p nonce }) came.did (reply_of p nonce)
               (native_answers own p.h.six six_of_own six_of_host nonce is.end.address.of.global)
               (ap is_teredo reply_goes.destination ∙ is.end.address.of.teredo)
               ∙ ap (λ (k : ℕ). sent (six (Some k) (reply_of p nonce)) ∷ []) is.through;

@@ -25,7 +25,7 @@ module _ (the : TrioRecord) where
   j = (journal p.k H).entries
 
   pub reachable : is_reachable Strict own ≡ true
-  reachable = endpoint.reachable p.lab p.a p.k p.r (is_beside p is)
+  reachable = endpoint.reachable (is_beside p is)
 
   -- the entry of a packet for the relay comes to it
   pub comes_by_six : (last : ℕ) (x : List ℕ) → Delivery p.lab H q last → OnSix H last (Some p.k) x
@@ -51,8 +51,17 @@ module _ (the : TrioRecord) where
 
   -- A PACKET OF THE NATIVE
 
+  -- a packet to the client, at its relay
+  pub record ToClient : Type 0 where
+    pub x : List ℕ
+    pub one : is_packet x ≡ true
+    pub to : (fields_in x).dst ≡ own
+    pub for_client : gives.IsForClient (record { s = s; j = j; n = now H; x = x; is_one = one })
+
   -- of which this is read, and whose destination is the client's address
-  module _ (x : List ℕ) (one : is_packet x ≡ true) (to : (fields_in x).dst ≡ own) (for_client : gives.IsForClient s j (now H) x one) where
+  module _ (to_client : ToClient) where
+    open to_client use {x, one, to, for_client}
+
     abbrev e : Entry
     e = relay_six s j (now H) x
 
@@ -60,21 +69,28 @@ module _ (the : TrioRecord) where
     pub goes_at_once : Did p.lab H q p.k (relay p.r) e → is_some (known (relay_mentions j) (now H) own).trusted ≡ true
         → q.made ≡ sent (udp p.r.at (embedded own) x) ∷ []
     goes_at_once did trusted =
-        let g = gives.goes_at_once s j (now H) x one for_client
+        let g = gives.goes_at_once (record { s = s; j = j; n = now H; x = x; is_one = one }) for_client
         (ap (λ (z : Ip6). is_some (known (relay_mentions j) (now H) z).trusted) to ∙ trusted) in
-        relay_sends p.lab H q p.k p.r e did r.sound (embedded own) x (g.sends ∙ ap (λ (z : Ip6). send (embedded z) x ∷ []) to) g.nothing
+        relay_sends did r.sound (embedded own) x (g.sends ∙ ap (λ (z : Ip6). send (embedded z) x ∷ []) to) g.nothing
 
     -- and is trusted on
     pub trusts_on : Did p.lab H q p.k (relay p.r) e → TrustsClient p H → TrustsClient p (q ∷ H)
     trusts_on did trusted =
-        let g = gives.goes_at_once s j (now H) x one for_client
+        let g = gives.goes_at_once (record { s = s; j = j; n = now H; x = x; is_one = one }) for_client
         (ap (λ (z : Ip6). is_some (known (relay_mentions j) (now H) z).trusted) to ∙ trusted) in
         at_same_moment (TrustsClientAt p) H q p.k (with_entry (journal p.k H) e) did.moment did.later
-        (knows.after_sent e j (now H) own (g.about ∙ ap (λ (z : Ip6). Some z) to) g.moment g.fate trusted)
+        (knows.after_sent (record { e = e; es = j; n = now H; p = own; about = g.about ∙ ap (λ (z : Ip6). Some z) to; moment = g.moment }) g.fate trusted)
+
+    -- the relay did its step with it, doesn't trust the client, and has room for it
+    pub record StrangersRoom : Type 0 where
+      pub did : Did p.lab H q p.k (relay p.r) e
+      pub untrusted : is_some (known (relay_mentions j) (now H) own).trusted ≡ false
+      pub room : has_room (relay_mentions j) (now H) own ≡ true
 
     -- where it doesn't trust the client, and has room for it
-    module _ (did : Did p.lab H q p.k (relay p.r) e) (untrusted : is_some (known (relay_mentions j) (now H) own).trusted ≡ false)
-        (room : has_room (relay_mentions j) (now H) own ≡ true) where
+    module _ (strange : StrangersRoom) where
+      open strange use {did, untrusted, room}
+
       untrusted_there : is_some (known (relay_mentions j) (now H) (fields_in x).dst).trusted ≡ false
       untrusted_there = ap (λ (z : Ip6). is_some (known (relay_mentions j) (now H) z).trusted) to ∙ untrusted
 
@@ -84,10 +100,10 @@ module _ (the : TrioRecord) where
       -- it goes to a cone client at once, which the relay trusts then
       pub goes_to_cone : has_cone own ≡ true → (q.made ≡ sent (udp p.r.at (embedded own) x) ∷ []) × TrustsClient p (q ∷ H)
       goes_to_cone cone =
-          let g = gives.goes_to_a_cone s j (now H) x one for_client untrusted_there room_is (ap has_cone to ∙ cone) in (
-            relay_sends p.lab H q p.k p.r e did r.sound (embedded own) x (g.sends ∙ ap (λ (z : Ip6). send (embedded z) x ∷ []) to) g.nothing,
+          let g = gives.goes_to_a_cone (record { s = s; j = j; n = now H; x = x; is_one = one }) for_client untrusted_there room_is (ap has_cone to ∙ cone) in (
+            relay_sends did r.sound (embedded own) x (g.sends ∙ ap (λ (z : Ip6). send (embedded z) x ∷ []) to) g.nothing,
             at_same_moment (TrustsClientAt p) H q p.k (with_entry (journal p.k H) e) did.moment did.later
-                (knows.after_sent_cone e j (now H) own (g.about ∙ ap (λ (z : Ip6). Some z) to) g.moment g.fate),
+                (knows.after_sent_cone (record { e = e; es = j; n = now H; p = own; about = g.about ∙ ap (λ (z : Ip6). Some z) to; moment = g.moment }) g.fate),
           )
 
       -- for another one it waits, where nothing else does, and a bubble goes to the client's server, unless the relay is barred for it
@@ -96,11 +112,11 @@ module _ (the : TrioRecord) where
           → (q.made ≡ sent (udp p.r.at (server_ep (server_in own)) (bubble_bytes p.r.six own)) ∷ []) × RelayKeeps p (q ∷ H)
       waits_there plain unbarred none same =
           let peer_is = ap (λ (z : Ip6). known (relay_mentions j) (now H) z) to in
-          let g = gives.waits_there s j (now H) x one for_client untrusted_there room_is (ap has_cone to ∙ plain)
+          let g = gives.waits_there (record { s = s; j = j; n = now H; x = x; is_one = one }) for_client untrusted_there room_is (ap has_cone to ∙ plain)
           (ap (is_spent (now H)) peer_is ∙ not_spent (now H) (known (relay_mentions j) (now H) own) unbarred)
           (ap is_full peer_is ∙ not_full (known (relay_mentions j) (now H) own) none) (ap (is_barred (now H)) peer_is ∙ unbarred) in
-          let t = knows.after_queued e j (now H) own (g.about ∙ ap (λ (z : Ip6). Some z) to) g.moment x g.fate g.packet none in (
-            relay_sends p.lab H q p.k p.r e did r.sound (server_ep (server_in own)) (bubble_bytes p.r.six own)
+          let t = knows.after_queued (record { e = e; es = j; n = now H; p = own; about = g.about ∙ ap (λ (z : Ip6). Some z) to; moment = g.moment }) g.fate g.packet none in (
+            relay_sends did r.sound (server_ep (server_in own)) (bubble_bytes p.r.six own)
                 (g.sends ∙ ap (λ (z : Ip6). send (server_ep (server_in z)) (bubble_bytes p.r.six z) ∷ []) to) g.nothing,
             at_same_moment (RelayKeepsAt p) H q p.k (with_entry (journal p.k H) e) did.moment did.later
                 (record { listed = t.listed; waiting = t.waiting ∙ ap (λ (y : List ℕ). y ∷ []) same }),
@@ -114,10 +130,10 @@ module _ (the : TrioRecord) where
   bubble_frees did keeps =
       let bubble = bubble_reads_back own p.r.six is.end.address.of.sixteen (relay_keeps p is).six in
       let b : Entry = relay_in s j (now H) (embedded own) (bubble_bytes own p.r.six) in
-      let g = hears.lets_go s j (now H) (bubble_bytes own p.r.six) (bubble_of own p.r.six) bubble.payload
+      let g = hears.lets_go (record { s = s; j = j; n = now H; x = bubble_bytes own p.r.six; p = bubble_of own p.r.six; reads = bubble.payload })
       (bubble_small own p.r.six) is.end.address.of.teredo bubble.bubble keeps.listed in
-      let t = knows.after_its_bubble b j (now H) own g.about g.moment g.fate in (
-        relay_sends p.lab H q p.k p.r b did r.sound (embedded own) p.x (g.sends ∙ ap (releases (embedded own)) keeps.waiting) g.nothing,
+      let t = knows.after_its_bubble (record { e = b; es = j; n = now H; p = own; about = g.about; moment = g.moment }) g.fate in (
+        relay_sends did r.sound (embedded own) p.x (g.sends ∙ ap (releases (embedded own)) keeps.waiting) g.nothing,
         at_same_moment (RelayTrustsAt p) H q p.k (with_entry (journal p.k H) b) did.moment did.later
             (record { listed = t.listed; waiting = t.waiting; trusted = t.trusted }),
       )

@@ -31,10 +31,10 @@ unfolding holds_most
 holds_few k none = ap (λ (hs : List Held). nat_le HELD_MAX (length hs)) none
 
 -- one that is believed by rule 2 is trusted where the reply came from, and nothing waits for it then
-after_rule_two : (e : Entry) (es : List Entry) (n : ℕ) (p : Ip6) → e.peer ≡ Some p → e.moment ≡ n → e.step.fate ≡ fate.Rule2
-    → (at : Ep) → source_of e.input ≡ Some at
+after_rule_two : (e : Entry) (es : List Entry) {n : ℕ} {p : Ip6} → e.peer ≡ Some p → e.moment ≡ n → e.step.fate ≡ fate.Rule2
+    → {at : Ep} → source_of e.input ≡ Some at
     → (is_trusted_at at (known (mentions (e ∷ es)) n p) ≡ true) × ((known (mentions (e ∷ es)) n p).waiting ≡ [])
-after_rule_two e es n p about moment rule at came =
+after_rule_two e es {n} {p} about moment rule {at} came =
     let touched : Touches e n p = record {
       peer = about;
       moment = moment;
@@ -72,9 +72,9 @@ module _ (the : TrioRecord) (nonce : ℕ) where
   small = reply_small the nonce
 
   -- the test, at the server
-  pub test_at_server : (last : ℕ) (later : List Full) → Delivery p.lab H q last → length (wire H) ≡ suc last
+  pub test_at_server : {last : ℕ} (later : List Full) → Delivery p.lab H q last → length (wire H) ≡ suc last
       → At H last (embedded own) (asks_at p.lab p.a.c) (test_of p nonce) → HoldsIt p H nonce → TrustsClient p H → IsOpen p H → Next p H q last later 4
-  test_at_server last later d long at holds trusts way =
+  test_at_server {last} later d long at holds trusts way =
       let came = on_its_way.test_at_server the nonce last d at in
       let more = one_more H q last (six None (test_of p nonce)) long came.made in
       let next = next_is the came.calm came.moment in
@@ -86,9 +86,9 @@ module _ (the : TrioRecord) (nonce : ℕ) where
       (of_another the p.a.c.server came.node (no_server_client the))
 
   -- at the native
-  pub at_native : (last : ℕ) (later : List Full) → Delivery p.lab H q last → length (wire H) ≡ suc last → OnSix H last None (test_of p nonce)
+  pub at_native : {last : ℕ} (later : List Full) → Delivery p.lab H q last → length (wire H) ≡ suc last → OnSix H last None (test_of p nonce)
       → HoldsIt p H nonce → TrustsClient p H → IsOpen p H → Next p H q last later 3
-  at_native last later d long at holds trusts way =
+  at_native {last} later d long at holds trusts way =
       let came = test_at_native the nonce last d at in
       let more = one_more H q last (six (Some p.k) (reply_of p nonce)) long came.made in
       let next = next_is the came.calm came.moment in
@@ -100,23 +100,35 @@ module _ (the : TrioRecord) (nonce : ℕ) where
       (of_another the p.m came.node (no_native_client the))
 
   -- the reply, at the relay
-  pub reply_at_relay : (last : ℕ) (later : List Full) → Delivery p.lab H q last → length (wire H) ≡ suc last → OnSix H last (Some p.k) (reply_of p nonce)
+  pub reply_at_relay : {last : ℕ} (later : List Full) → Delivery p.lab H q last → length (wire H) ≡ suc last → OnSix H last (Some p.k) (reply_of p nonce)
       → HoldsIt p H nonce → TrustsClient p H → IsOpen p H → Next p H q last later 2
-  reply_at_relay last later d long at holds trusts way =
+  reply_at_relay {last} later d long at holds trusts way =
       let came = comes_by_six the last (reply_of p nonce) d at in
       let may = for_client the (reply_of p nonce) goes.packet src dst small in
       let more = one_more H q last (udp p.r.at (embedded own) (reply_of p nonce)) long
-      (goes_at_once the (reply_of p nonce) goes.packet dst may came.did trusts) in
+      (goes_at_once the (record { x = reply_of p nonce; one = goes.packet; to = dst; for_client = may }) came.did trusts) in
       let next = next_is the came.calm came.did.moment in
       let same = client_stays the p.k came.did.node (no_relay_client the) in
       goes_on 0 (ground_on the next (same_address the same)) more.longer
       (replies nonce more.at (at_same_moment (HoldsAt p nonce) H q p.a.n j came.did.moment same holds)
-      (trusts_on the (reply_of p nonce) goes.packet dst may came.did trusts) (still_open the next way))
+      (trusts_on the (record { x = reply_of p nonce; one = goes.packet; to = dst; for_client = may }) came.did trusts) (still_open the next way))
       (of_another the p.k came.did.node (no_relay_client the))
 
+  -- the reply to the test is delivered, the latest entry, and the packet is held for it
+  pub record ReplyComes : Type 0 where
+    pub last : ℕ
+    pub later : List Full
+    pub d : Delivery p.lab H q last
+    pub long : length (wire H) ≡ suc last
+    pub at : At H last p.r.at (embedded own) (reply_of p nonce)
+    pub holds : HoldsIt p H nonce
+    pub trusts : TrustsClient p H
+    pub way : IsOpen p H
+
   -- at the client, whose host is handed the packet
-  module _ (last : ℕ) (later : List Full) (d : Delivery p.lab H q last) (long : length (wire H) ≡ suc last)
-      (at : At H last p.r.at (embedded own) (reply_of p nonce)) (holds : HoldsIt p H nonce) (trusts : TrustsClient p H) (way : IsOpen p H) where
+  module _ (reply_comes : ReplyComes) where
+    open reply_comes use {last, later, d, long, at, holds, trusts, way}
+
     came : Arrival p.lab H q p.a.n (client p.a.c) (udp p.r.at (embedded own) (reply_of p nonce))
     came = steps.comes_to_client the last p.r.at (reply_of p nonce) d at way
 
@@ -125,16 +137,23 @@ module _ (the : TrioRecord) (nonce : ℕ) where
         (read_as (reply_of p nonce) goes.packet)
 
     abbrev got : Entry
-    got = steps.got the (reply_of p nonce) src dst small
+    got = steps.got the (record { x = reply_of p nonce; src = src; dst = dst; little = small })
 
     abbrev host : Ip6 → Peer
     host z = known (mentions j.entries) (now H) z
 
-    g : hands.HandsLate (setup p.lab p.a) j (now H) p.r.at (fields_in (reply_of p nonce))
-        (steps.from_native the (reply_of p nonce) src dst small) nonce got
+    g : hands.HandsLate (record {
+      s = setup p.lab p.a;
+      j = j;
+      n = now H;
+      at = p.r.at;
+      p = fields_in (reply_of p nonce);
+      is = steps.from_native the (record { x = reply_of p nonce; src = src; dst = dst; little = small });
+      nonce = nonce;
+    }) got
         × (q.made ≡ leaves_for_relay p (host (fields_in (reply_of p nonce)).src).waiting)
         × ((qualification (setup p.lab p.a) (with_entry j got)).address ≡ (qualification (setup p.lab p.a) j).address)
-    g = steps.hands_packet the (reply_of p nonce) src dst small came.did nonce (record {
+    g = steps.hands_packet the (record { x = reply_of p nonce; src = src; dst = dst; little = small }) came.did {n = nonce} (record {
       listed = ap (λ (z : Ip6). is_listed z (now H) (mentions j.entries)) src ∙ holds.listed;
       tested = ap (λ (z : Ip6). (host z).nonce) src ∙ holds.tested;
       untrusted = ap (λ (z : Ip6). is_trusted_at p.r.at (host z)) src ∙ holds.untrusted;
@@ -178,7 +197,7 @@ module _ (the : TrioRecord) (nonce : ℕ) where
     only_held full =
         let next = next_is the came.calm came.did.moment in
         let relays = other_journal p.lab H q p.a.n p.k came.did.node (λ same. no_relay_client the (sym same)) in
-        let believed = after_rule_two got j.entries (now H) p.h.six (g.0.about ∙ ap (λ (z : Ip6). Some z) src) g.0.moment g.0.fate p.r.at g.0.came in
+        let believed = after_rule_two got j.entries (g.0.about ∙ ap (λ (z : Ip6). Some z) src) g.0.moment g.0.fate g.0.came in
         parts 0 full holds.before (record {
           node = came.did.node;
           handed = came.did.handed ∙ ap (λ (o : Option Span). option_and_then (part_of got.input) o) g.0.handed;

@@ -37,22 +37,22 @@ is_beside p is = record { rules = is.rules; end = is.end; there = is.relay_there
 
 module _ (p : Trio) (is : IsTrio p) where
   pub no_primary : same_ip p.r.at.ip is.end.server_row.primary ≡ false
-  no_primary = endpoint.no_primary p.lab p.a p.k p.r (is_beside p is)
+  no_primary = endpoint.no_primary (is_beside p is)
 
   pub no_secondary : same_ip p.r.at.ip is.end.server_row.secondary ≡ false
-  no_secondary = endpoint.no_secondary p.lab p.a p.k p.r (is_beside p is)
+  no_secondary = endpoint.no_secondary (is_beside p is)
 
   pub relay_elsewhere : IsElsewhere p.lab p.r.at.ip (nats_of p.lab p.a.c)
-  relay_elsewhere = endpoint.relay_elsewhere p.lab p.a p.k p.r (is_beside p is)
+  relay_elsewhere = endpoint.relay_elsewhere (is_beside p is)
 
   pub no_loop : same_ip (embedded p.a.own).ip p.r.at.ip ≡ false
-  no_loop = endpoint.no_loop p.lab p.a p.k p.r (is_beside p is)
+  no_loop = endpoint.no_loop (is_beside p is)
 
   pub relay_keeps : IsRelayNode p.r
-  relay_keeps = endpoint.relay_keeps p.lab p.a p.k p.r (is_beside p is)
+  relay_keeps = endpoint.relay_keeps (is_beside p is)
 
   pub relay_usable : is_usable Strict p.r.at ≡ true
-  relay_usable = endpoint.relay_usable p.lab p.a p.k p.r (is_beside p is)
+  relay_usable = endpoint.relay_usable (is_beside p is)
 
   pub native_keeps : IsNativeNode p.lab.topology p.h
   native_keeps = each_node p.lab.topology p.m (native p.h) is.rules is.native_there

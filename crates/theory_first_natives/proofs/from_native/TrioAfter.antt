@@ -1,5 +1,5 @@
 -- A record that follows at once: what it leaves of the ground.
-use Rattle.theory_first_natives.proofs.Words.{ComesIn, Contains, Did, DoesSend, Entry, Ep, Fields, Follows, Full, GivesToHost, HasNoFault, IsCalmNext, IsHere, IsLetIn, IsMadeItem, Item, Journal, LeavesNats, List, None, Ok, Option, ReadsPayload, Some, [], all_at, ap, arith, asks_at, bytes_of, client, client_address, embedded, enters_along, false≢true, inl, inr, is_here, is_let_in, is_some, journal, native, nats_of, now, packet_at, packet_is_payload, qualification, refl, relay, server, setup, slice_get, still_in, subst, sym, two_kinds, unwrap_or, value_written, wire, wire_is_made, with_entry, ℕ, ◌<◌, ◌∙◌, ◌∷◌, ◌≡◌, ◌⊎◌}
+use Rattle.theory_first_natives.proofs.Words.{ComesIn, Contains, Did, DoesSend, Entry, Ep, Fields, Follows, Full, GivesToHost, HasNoFault, IsCalmNext, IsHere, IsLetIn, IsMadeItem, Item, Journal, LeavesNats, List, None, Ok, Option, ReadsPayload, Some, [], all_at, ap, arith, asks_at, bytes_of, client, client_address, embedded, enters_along, false≢true, inl, inr, is_here, is_let_in, is_some, journal, nats_of, now, packet_at, packet_is_payload, qualification, refl, server, setup, slice_get, still_in, subst, sym, two_kinds, unwrap_or, value_written, wire, wire_is_made, with_entry, ℕ, ◌<◌, ◌∙◌, ◌∷◌, ◌≡◌, ◌⊎◌}
 use Rattle.theory_first_natives.proofs.Apart.{is_server_node, is_relay_node, is_native_node}
 use Rattle.theory_first_natives.proofs.from_native.Trio.{Trio, IsTrio}
 use Rattle.theory_first_natives.proofs.from_native.TrioStages.{Ground, IsOpen}
@@ -24,20 +24,20 @@ module _ (the : TrioRecord) where
   open the use {p, H, q, r}
 
   pub no_relay_client : p.k ≡ p.a.n → ⊥
-  no_relay_client = two_kinds p.lab.topology p.k p.a.n (relay p.r) (client p.a.c) is_relay_node r.trio.relay_there r.trio.end.there refl refl
+  no_relay_client = two_kinds p.lab.topology {i = p.k} {j = p.a.n} is_relay_node r.trio.relay_there r.trio.end.there refl refl
 
   pub no_native_client : p.m ≡ p.a.n → ⊥
-  no_native_client = two_kinds p.lab.topology p.m p.a.n (native p.h) (client p.a.c) is_native_node r.trio.native_there r.trio.end.there refl refl
+  no_native_client = two_kinds p.lab.topology {i = p.m} {j = p.a.n} is_native_node r.trio.native_there r.trio.end.there refl refl
 
   pub no_native_relay : p.m ≡ p.k → ⊥
-  no_native_relay = two_kinds p.lab.topology p.m p.k (native p.h) (relay p.r) is_native_node r.trio.native_there r.trio.relay_there refl refl
+  no_native_relay = two_kinds p.lab.topology {i = p.m} {j = p.k} is_native_node r.trio.native_there r.trio.relay_there refl refl
 
   pub no_server_client : p.a.c.server ≡ p.a.n → ⊥
-  no_server_client = two_kinds p.lab.topology p.a.c.server p.a.n (server r.trio.end.server_row) (client p.a.c) is_server_node
+  no_server_client = two_kinds p.lab.topology {i = p.a.c.server} {j = p.a.n} is_server_node
       r.trio.end.server_is r.trio.end.there refl refl
 
   pub no_server_relay : p.a.c.server ≡ p.k → ⊥
-  no_server_relay = two_kinds p.lab.topology p.a.c.server p.k (server r.trio.end.server_row) (relay p.r) is_server_node
+  no_server_relay = two_kinds p.lab.topology {i = p.a.c.server} {j = p.k} is_server_node
       r.trio.end.server_is r.trio.relay_there refl refl
 
   -- a record of another node hands the client's host nothing
@@ -59,14 +59,14 @@ module _ (the : TrioRecord) where
 
   -- ways in stay
   pub still_open : IsCalmNext p.lab H q → IsOpen p H → IsOpen p (q ∷ H)
-  still_open next way = still_in p.lab H q next p.r.at (nats_of p.lab p.a.c) p.a.c.inside (embedded p.a.own) way
+  still_open next way = still_in H next p.r.at (nats_of p.lab p.a.c) p.a.c.inside (embedded p.a.own) way
 
   -- so does the ground, where the client keeps its address
   pub ground_on : IsCalmNext p.lab H q → client_address p.lab (q ∷ H) p.a.n p.a.c ≡ client_address p.lab H p.a.n p.a.c → Ground p (q ∷ H)
   ground_on next address = record {
     grown = (r.follows, r.ground.grown);
     address = address ∙ r.ground.address;
-    way = still_in p.lab H q next (asks_at p.lab p.a.c) (nats_of p.lab p.a.c) p.a.c.inside (embedded p.a.own) r.ground.way;
+    way = still_in H next (asks_at p.lab p.a.c) (nats_of p.lab p.a.c) p.a.c.inside (embedded p.a.own) r.ground.way;
   }
 
   pub same_address : journal p.a.n (q ∷ H) ≡ journal p.a.n H → client_address p.lab (q ∷ H) p.a.n p.a.c ≡ client_address p.lab H p.a.n p.a.c

@@ -131,8 +131,19 @@ module _ (the : TrioRun) where
     by true e = let low = early e in let same = bound.tight e in omega (arith, sum, low, same)
     by false e = let same = bound.loose e in omega (arith, sum, same)
 
-  module _ (is : IsTrio p) (no_reply : is_echo_reply (message_in (fields_in p.x)) ≡ false) (later : List Full) (board : Board later) (q : Full)
-      (fresh : DeliversFresh r later q) (follows : Follows p.lab (after later) q) where
+  -- one more delivery of a fresh schedule, from a board
+  pub record Turn : Type 0 where
+    pub is : IsTrio p
+    pub no_reply : is_echo_reply (message_in (fields_in p.x)) ≡ false
+    pub later : List Full
+    pub board : Board later
+    pub q : Full
+    pub fresh : DeliversFresh r later q
+    pub follows : Follows p.lab (after later) q
+
+  module _ (next_turn : Turn) where
+    open next_turn use {is, no_reply, later, board, q, fresh, follows}
+
     abbrev H : List Full
     H = after later
 
@@ -146,18 +157,18 @@ module _ (the : TrioRun) where
     delivered = deliveries p.lab H q fresh.number (follows, board.ground.grown) fresh.delivered
 
     -- the latest entry
-    advance : (left : ℕ) → is_open left ≡ true → Stage p H board.last later left → Delivery p.lab H q board.last → Next p H q board.last later left
-    advance _ opened (must_wait at plain may_ask may) d = waits_at_relay latest board.last later d board.long at plain may_ask may
-    advance _ opened (goes_straight at sends host) d = at_relay latest board.last later d board.long at sends host
-    advance _ opened (bubbles at keeps may) d = at_server latest board.last later d board.long at keeps may
-    advance _ opened (tells at keeps may) d = at_client latest board.last later d board.long at keeps may
-    advance _ opened (answers at keeps host way) d = at_relay_again latest board.last later d board.long at keeps host way
-    advance _ opened (comes at trusts host way) d = at_client_packet latest board.last later d board.long at no_reply trusts host way
-    advance _ opened (tests nonce at holds trusts way untrusted) d = test_at_server latest nonce board.last later d board.long at holds trusts way
-    advance _ opened (asks nonce at holds trusts way) d = at_native latest nonce board.last later d board.long at holds trusts way
-    advance _ opened (echoes nonce at holds trusts way) d = reply_at_relay latest nonce board.last later d board.long at holds trusts way
-    advance _ opened (replies nonce at holds trusts way) d = at_end latest nonce board.last later d board.long at holds trusts way
-    advance _ opened (has_come come) d = absurd (false≢true opened)
+    advance : {left : ℕ} → is_open left ≡ true → Stage p H board.last later left → Delivery p.lab H q board.last → Next p H q board.last later left
+    advance opened (must_wait at plain may_ask may) d = waits_at_relay latest (record { last = board.last; later = later; d = d; long = board.long; at = at }) plain may_ask may
+    advance opened (goes_straight at sends host) d = at_relay latest (record { last = board.last; later = later; d = d; long = board.long; at = at }) sends host
+    advance opened (bubbles at keeps may) d = at_server latest board.last later d board.long at keeps may
+    advance opened (tells at keeps may) d = at_client latest board.last later d board.long at keeps may
+    advance opened (answers at keeps host way) d = at_relay_again latest later d board.long at keeps host way
+    advance opened (comes at trusts host way) d = at_client_packet latest (record { last = board.last; later = later; d = d; long = board.long; at = at; no_reply = no_reply; trusts = trusts; host = host; way = way })
+    advance opened (tests nonce at holds trusts way untrusted) d = test_at_server latest nonce later d board.long at holds trusts way
+    advance opened (asks nonce at holds trusts way) d = at_native latest nonce later d board.long at holds trusts way
+    advance opened (echoes nonce at holds trusts way) d = reply_at_relay latest nonce later d board.long at holds trusts way
+    advance opened (replies nonce at holds trusts way) d = at_end latest nonce (record { last = board.last; later = later; d = d; long = board.long; at = at; holds = holds; trusts = trusts; way = way })
+    advance opened (has_come come) d = absurd (false≢true opened)
 
     moves : {left : ℕ} → AreOpen r.first board.last false (is_open left) later → length later + left ≡ total → (trusts ≡ true → 5 ≤ left)
         → q.delivered ≡ Some board.last → Next p H q board.last later left → Course (q ∷ later)
@@ -211,7 +222,7 @@ module _ (the : TrioRun) where
           by : ((false ≡ true) × (fresh.number ≡ r.first)) ⊎ ((is_open board.left ≡ true) × (fresh.number ≡ board.last)) → Course (q ∷ later)
           by (inl e) = absurd (false≢true e.0)
           by (inr e) = moves board.are board.sum board.early (fresh.delivered ∙ ap (λ (n : ℕ). Some n) e.1)
-              (advance board.left e.0 board.stage (subst (Delivery p.lab H q) e.1 delivered))
+              (advance e.0 board.stage (subst (Delivery p.lab H q) e.1 delivered))
 
   -- so is the whole schedule
   pub course : IsTrio p → is_echo_reply (message_in (fields_in p.x)) ≡ false → (later : List Full) → Grown p.lab (after later) → AreFresh r later
@@ -219,7 +230,7 @@ module _ (the : TrioRun) where
   course is no_reply [] g fresh board = on_way board
   course is no_reply (q ∷ later) g fresh board = by (course is no_reply later g.1 fresh.1 board) where
     by : Course later → Course (q ∷ later)
-    by (on_way so_far) = next_course is no_reply later so_far q fresh.0 g.0
+    by (on_way so_far) = next_course (record { is = is; no_reply = no_reply; later = later; board = so_far; q = q; fresh = fresh.0; follows = g.0 })
     by (came so_far known however) = came (within_longer (GivesToHost p.a.n p.x) most q later so_far) known however
     by (parted so_far) = parted (more q later so_far)
 

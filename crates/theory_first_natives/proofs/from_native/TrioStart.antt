@@ -129,7 +129,7 @@ module _ (p : Trio) (H : List Full) (r : Full) (start : IsStart p H r) where
   relay_stays = other_journal p.lab H r p.m p.k did.node (no_native_relay latest)
 
   made : r.made ≡ sent (six (Some p.k) p.x) ∷ []
-  made = native_gives p.lab H r p.m p.h p.x did start.packet.handed.packet.packet small start.packet.handed.packet.source
+  made = native_gives (record { lab = p.lab; H = H; q = r; m = p.m; h = p.h; x = p.x }) did start.packet.handed.packet.packet small start.packet.handed.packet.source
       (ap is_global6 start.packet.handed.packet.destination ∙ is_trio.end.address.of.global)
       (ap is_teredo start.packet.handed.packet.destination ∙ is_trio.end.address.of.teredo)
       ∙ ap (λ (k : ℕ). sent (six (Some k) p.x) ∷ []) is_trio.through
@@ -202,8 +202,8 @@ module _ (p : Trio) (H : List Full) (r : Full) (start : IsStart p H r) where
   run = record { p = p; before = H; r = r; total = total; most = most; bound = bound }
 
   -- so many deliveries are left
-  starts : (left : ℕ) → is_open left ≡ true → 5 ≤ left → left ≡ total → Stage p (r ∷ H) (length (wire H)) [] left → Board run []
-  starts left open_too low same stage = record {
+  starts : {left : ℕ} → is_open left ≡ true → 5 ≤ left → left ≡ total → Stage p (r ∷ H) (length (wire H)) [] left → Board run []
+  starts {left} open_too low same stage = record {
     last = length (wire H);
     left = left;
     ground = ground_on latest next (same_address latest client_stays);
@@ -223,10 +223,10 @@ module _ (p : Trio) (H : List Full) (r : Full) (start : IsStart p H r) where
         ∙ ap (λ (b : Bool). most_deliveries (not (trusts_client H p.k p.a.own) && not b)) (sym cone)
 
     by : (t c : Bool) → trusts_client H p.k p.a.own ≡ t → has_cone p.a.own ≡ c → Board run []
-    by true c trusts cone = starts 6 refl (omega arith) (so_many true c trusts cone) (goes_straight on_six (to_trusted (relay_at_moment (TrustsClientAt p) trusts) (opened trusts)) host)
-    by false true untrusted cone = starts 6 refl (omega arith) (so_many false true untrusted cone) (goes_straight on_six
+    by true c trusts cone = starts refl (omega arith) (so_many true c trusts cone) (goes_straight on_six (to_trusted (relay_at_moment (TrustsClientAt p) trusts) (opened trusts)) host)
+    by false true untrusted cone = starts refl (omega arith) (so_many false true untrusted cone) (goes_straight on_six
         (to_cone cone (relay_at_moment (RelayHasRoomAt p) (record { untrusted = untrusted; room = start.packet.client_room }))) host)
-    by false false untrusted plain = starts 9 refl (omega arith) (so_many false false untrusted plain) (waits plain untrusted)
+    by false false untrusted plain = starts refl (omega arith) (so_many false false untrusted plain) (waits plain untrusted)
 
   -- the whole schedule
   pub carried : (later : List Full) → Grown p.lab (later ++ r ∷ H) → AreFresh r later → Course run later

@@ -20,7 +20,7 @@ module _ (the : TrioRecord) where
 
   -- a packet from the native to the client is one that the relay may send on
   pub for_client : (x : List ℕ) (one : is_packet x ≡ true) → (fields_in x).src ≡ p.h.six → (fields_in x).dst ≡ own → is_big (fields_in x) ≡ false
-      → gives.IsForClient (relay_settings p.lab.topology p.k p.r) (journal p.k H).entries (now H) x one
+      → gives.IsForClient (record { s = relay_settings p.lab.topology p.k p.r; j = (journal p.k H).entries; n = now H; x = x; is_one = one })
   for_client x one src dst little = record {
     short = little;
     teredo = ap is_teredo dst ∙ is.end.address.of.teredo;
@@ -36,11 +36,21 @@ module _ (the : TrioRecord) where
 
   -- THE PACKET, AT THE RELAY
 
-  module _ (last : ℕ) (later : List Full) (d : Delivery p.lab H q last) (long : length (wire H) ≡ suc last) (at : OnSix H last (Some p.k) p.x) where
+  -- the packet is delivered to the relay, the latest entry
+  pub record PacketComes : Type 0 where
+    pub last : ℕ
+    pub later : List Full
+    pub d : Delivery p.lab H q last
+    pub long : length (wire H) ≡ suc last
+    pub at : OnSix H last (Some p.k) p.x
+
+  module _ (delivery : PacketComes) where
+    open delivery use {last, later, d, long, at}
+
     came : Arrival p.lab H q p.k (relay p.r) (six (Some p.k) p.x)
     came = comes_by_six the last p.x d at
 
-    may : gives.IsForClient (relay_settings p.lab.topology p.k p.r) (journal p.k H).entries (now H) p.x is.packet.packet
+    may : gives.IsForClient (record { s = relay_settings p.lab.topology p.k p.r; j = (journal p.k H).entries; n = now H; x = p.x; is_one = is.packet.packet })
     may = for_client p.x is.packet.packet is.packet.source is.packet.destination is.small
 
     same : journal p.a.n (q ∷ H) ≡ journal p.a.n H
@@ -62,17 +72,17 @@ module _ (the : TrioRecord) where
     pub at_relay : SendsAtOnce p H → HostStays p H → Next p H q last later 6
     at_relay (to_trusted trusts way) host =
         goes_on_there host way (
-          goes_at_once the p.x is.packet.packet is.packet.destination may came.did trusts,
-          trusts_on the p.x is.packet.packet is.packet.destination may came.did trusts,
+          goes_at_once the (record { x = p.x; one = is.packet.packet; to = is.packet.destination; for_client = may }) came.did trusts,
+          trusts_on the (record { x = p.x; one = is.packet.packet; to = is.packet.destination; for_client = may }) came.did trusts,
         )
     at_relay (to_cone cone room) host =
         goes_on_there host (cone_along p.lab H (asks_at p.lab p.a.c) p.r.at (nats_of p.lab p.a.c) p.a.c.inside (embedded own) (is.cone cone) r.ground.way)
-        (goes_to_cone the p.x is.packet.packet is.packet.destination may came.did room.untrusted room.room cone)
+        (goes_to_cone the (record { x = p.x; one = is.packet.packet; to = is.packet.destination; for_client = may }) (record { did = came.did; untrusted = room.untrusted; room = room.room }) cone)
 
     -- it waits there
     pub waits_at_relay : has_cone own ≡ false → RelayAsks p H → MayHear p H → Next p H q last later 9
     waits_at_relay plain asks hear =
-        let g = waits_there the p.x is.packet.packet is.packet.destination may came.did asks.untrusted asks.room plain asks.unbarred
+        let g = waits_there the (record { x = p.x; one = is.packet.packet; to = is.packet.destination; for_client = may }) (record { did = came.did; untrusted = asks.untrusted; room = asks.room }) plain asks.unbarred
         asks.nothing_waits refl in
         let more = one_more H q last (udp p.r.at (server_ep (server_in own)) (bubble_bytes p.r.six own)) long g.0 in
         goes_on 7 (ground_on the next (same_address the same)) more.longer
@@ -94,9 +104,9 @@ module _ (the : TrioRecord) where
       (of_another the p.a.c.server came.node (no_server_client the))
 
   -- the client's bubble, at the relay
-  pub at_relay_again : (last : ℕ) (later : List Full) → Delivery p.lab H q last → length (wire H) ≡ suc last
+  pub at_relay_again : {last : ℕ} (later : List Full) → Delivery p.lab H q last → length (wire H) ≡ suc last
       → At H last (embedded own) p.r.at (bubble_bytes own p.r.six) → RelayKeeps p H → HostStays p H → IsOpen p H → Next p H q last later 6
-  at_relay_again last later d long at keeps host way =
+  at_relay_again {last} later d long at keeps host way =
       let came : Arrival p.lab H q p.k (relay p.r) (udp (embedded own) p.r.at (bubble_bytes own p.r.six)) =
       comes_by_datagram the last (embedded own) (bubble_bytes own p.r.six) d at in
       let g = bubble_frees the came.did keeps in

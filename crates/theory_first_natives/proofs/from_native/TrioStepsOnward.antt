@@ -40,7 +40,7 @@ module _ (the : TrioRecord) where
   at_client last later d long at keeps may =
       let came = steps.comes_to_client the last (asks_at p.lab p.a.c) (told p is) d at r.ground.way in
       let g = bubble_steps.answers_bubble the may.room may.unbarred came.did in
-      let none = hands_nothing (setup p.lab p.a) j (now H) (asks_at p.lab p.a.c) (told p is) (words p.lab p.a.n H) fate.Indirect g.2 refl in
+      let none = hands_nothing (setup p.lab p.a) j (now H) (asks_at p.lab p.a.c) (told p is) (words p.lab p.a.n H) g.2 refl in
       let more = one_more H q last (udp (embedded own) p.r.at (bubble_bytes own p.r.six)) long g.0 in
       let next = next_is the came.calm came.did.moment in
       let relays = other_journal p.lab H q p.a.n p.k came.did.node (λ same. no_relay_client the (sym same)) in
@@ -48,8 +48,8 @@ module _ (the : TrioRecord) where
       goes_on 5 (ground_on the next (same_after the (bubble_steps.heard the) came.did.later g.4)) more.longer
       (answers more.at (at_same_moment (RelayKeepsAt p) H q p.k (journal p.k H) came.did.moment relays keeps)
       (at_same_moment (HostStaysAt p) H q p.a.n (with_entry j (bubble_steps.heard the)) came.did.moment came.did.later (record {
-        same = knows.others_stay_known (bubble_steps.heard the) j.entries (now H) p.r.six g.3 g.2 p.h.six apart ∙ may.host.same;
-        room = knows.room_for_another (bubble_steps.heard the) j.entries (now H) p.r.six g.3 g.2 p.h.six apart
+        same = knows.others_stay_known (bubble_steps.heard the) j.entries (now H) g.3 g.2 p.h.six apart ∙ may.host.same;
+        room = knows.room_for_another (bubble_steps.heard the) j.entries (now H) g.3 g.2 p.h.six apart
             may.host.room may.room_for_both;
         may_test = may.host.may_test;
       }))
@@ -57,9 +57,22 @@ module _ (the : TrioRecord) where
       (of_none the (came.did.handed ∙ ap (λ (o : Option Span). option_and_then (part_of (bubble_steps.heard the).input) o) none.handed)
       (came.did.late ∙ none.late))
 
+  -- the packet is delivered to the client, the latest entry, and the relay trusts the client
+  pub record PacketAtClient : Type 0 where
+    pub last : ℕ
+    pub later : List Full
+    pub d : Delivery p.lab H q last
+    pub long : length (wire H) ≡ suc last
+    pub at : At H last p.r.at (embedded own) p.x
+    pub no_reply : is_echo_reply (message_in (fields_in p.x)) ≡ false
+    pub trusts : TrustsClient p H
+    pub host : HostStays p H
+    pub way : IsOpen p H
+
   -- the packet, at the client
-  module _ (last : ℕ) (later : List Full) (d : Delivery p.lab H q last) (long : length (wire H) ≡ suc last) (at : At H last p.r.at (embedded own) p.x)
-      (no_reply : is_echo_reply (message_in (fields_in p.x)) ≡ false) (trusts : TrustsClient p H) (host : HostStays p H) (way : IsOpen p H) where
+  module _ (packet_comes : PacketAtClient) where
+    open packet_comes use {last, later, d, long, at, no_reply, trusts, host, way}
+
     came : Arrival p.lab H q p.a.n (client p.a.c) (udp p.r.at (embedded own) p.x)
     came = steps.comes_to_client the last p.r.at p.x d at way
 
@@ -67,13 +80,13 @@ module _ (the : TrioRecord) where
     reads = payload the last (udp p.r.at (embedded own) p.x) at (fields_in p.x) (read_as p.x is.packet.packet)
 
     abbrev got : Entry
-    got = steps.got the p.x is.packet.source is.packet.destination is.small
+    got = steps.got the (record { x = p.x; src = is.packet.source; dst = is.packet.destination; little = is.small })
 
     -- from where the native isn't trusted the native is tested, and the packet is held, or the client holds as many as it may
     is_held : is_trusted_at p.r.at p.of_host ≡ false → Next p H q last later 5
     is_held untrusted =
-        let nonce = steps.nonce the p.x is.packet.source is.packet.destination is.small in
-        let g = steps.tests_native the p.x is.packet.source is.packet.destination is.small came.did host untrusted is.packet.no_bubble no_reply
+        let nonce = steps.nonce the (record { x = p.x; src = is.packet.source; dst = is.packet.destination; little = is.small }) in
+        let g = steps.tests_native the (record { x = p.x; src = is.packet.source; dst = is.packet.destination; little = is.small }) came.did host untrusted is.packet.no_bubble no_reply
         reads in
         let more = one_more H q last (udp (embedded own) (asks_at p.lab p.a.c) (test_of p nonce)) long g.0 in
         let next = next_is the came.calm came.did.moment in
@@ -111,7 +124,7 @@ module _ (the : TrioRecord) where
     is_handed trusted = brings 4 (record {
       node = came.did.node;
       packet = inl (came.did.handed ∙ handed_at_once (setup p.lab p.a) j (now H) p.r.at p.x
-          (steps.from_trusted the p.x is.packet.source is.packet.destination is.small reads is.packet.no_bubble host trusted) (words p.lab p.a.n H));
+          (steps.from_trusted the (record { x = p.x; src = is.packet.source; dst = is.packet.destination; little = is.small }) reads is.packet.no_bubble host trusted) (words p.lab p.a.n H));
     }) (no_stranger p.r.at p.of_host trusted) (inl trusted)
 
     pub at_client_packet : Next p H q last later 5

@@ -6,7 +6,19 @@ use Rattle.theory_first_natives.proofs.tables.NativeTables.{test_is_answered}
 use Rattle.theory_first_natives.proofs.tables.NativeReads.{answer}
 use Rattle.theory_first_natives.proofs.tables.ClientTests.{IsFromNative, for_client, seen_so}
 
-module _ (s : Settings) (j : Journal) (n : ℕ) (at : Ep) (p : Fields) (is : IsFromNative s j at p) (nonce : ℕ) where
+-- what came from a native host, and a nonce
+pub record FromNativeWith : Type 0 where
+  pub s : Settings
+  pub j : Journal
+  pub n : ℕ
+  pub at : Ep
+  pub p : Fields
+  pub is : IsFromNative s j at p
+  pub nonce : ℕ
+
+module _ (arrival : FromNativeWith) where
+  open arrival use {s, j, n, at, p, is, nonce}
+
   abbrev peer : Peer
   peer = known (mentions j.entries) n p.src
 
@@ -21,10 +33,10 @@ module _ (s : Settings) (j : Journal) (n : ℕ) (at : Ep) (p : Fields) (is : IsF
   same_bytes : (xs : List ℕ) → pointwise nat_eq xs xs ≡ true
   same_bytes xs = (pointwise_decides Decides-eqb xs xs).1 refl
 
-  tested_by : Waits → message_in p ≡ Some (answer nonce) → IsTested (seen_so s j n at p is)
+  tested_by : Waits → message_in p ≡ Some (answer nonce) → IsTested (seen_so (record { s = s; j = j; n = n; at = at; p = p; is = is }))
   unfolding standing_at
   tested_by waits message = record {
-    direct = record { mine = for_client s j n at p is; direct = is.elsewhere };
+    direct = record { mine = for_client (record { s = s; j = j; n = n; at = at; p = p; is = is }); direct = is.elsewhere };
     untrusted = waits.untrusted;
     native = is.native;
     listed = listed_is_known (mentions j.entries) n p.src ∙ waits.listed;
@@ -43,11 +55,11 @@ module _ (s : Settings) (j : Journal) (n : ℕ) (at : Ep) (p : Fields) (is : IsF
     pub came : source_of e.input ≡ Some at
     pub handed : e.step.handed ≡ None
 
-  pub hands_late_it : Waits → message_in p ≡ Some (answer nonce) → (x : List ℕ) → ReadsPayload (value_written None None p) x → (w : Words)
+  pub hands_late_it : Waits → message_in p ≡ Some (answer nonce) → {x : List ℕ} → ReadsPayload (value_written None None p) x → (w : Words)
       → HandsLate (client_in s j n at x w)
   unfolding standing_at
-  hands_late_it waits message x reads w =
-      subst HandsLate (sym (entry_here s j n at x (value_written None None p) reads w fate.Rule2
+  hands_late_it waits message {x} reads w =
+      subst HandsLate (sym (entry_here s j n at x (value_written None None p) reads w
       (test_is_answered (seen_here s j n at x (value_written None None p) reads)
       (advert_row s (standing_at s j n p.src).qualification at (value_written None None p)) (tested_by waits message))))
       (record {

@@ -105,16 +105,16 @@ module _ (the : TestOf) where
 -- AFTER A BUBBLE OF THE RELAY
 
 -- it answered a peer, and knows as much of another one as before, for which there is room
-module _ (e : Entry) (es : List Entry) (n : ℕ) (p : Ip6) (about : e.peer ≡ Some p)
+module _ (e : Entry) (es : List Entry) (n : ℕ) {p : Ip6} (about : e.peer ≡ Some p)
     (fate_is : e.step.fate ≡ fate.Indirect) where
   touches_it : (mention e).bearing.touches ≡ true
   touches_it = ap (λ (f : Fate). (bearing_of f e).touches) fate_is
 
   pub others_stay_known : (q : Ip6) → same_ip6 p q ≡ false → known (mentions (e ∷ es)) n q ≡ known (mentions es) n q
-  others_stay_known = others_known e es n p about (ap is_changed fate_is) touches_it
+  others_stay_known = others_known e es n about (ap is_changed fate_is) touches_it
 
   -- room for another one, beside that peer where it lists neither, is room for it then
   pub room_for_another : (q : Ip6) → same_ip6 p q ≡ false → has_room (mentions es) n q ≡ true
       → (is_listed q n (mentions es) ≡ false → is_listed p n (mentions es) ≡ false → length (listed (mentions es) n) + 2 ≤ PEERS_MAX)
       → has_room (mentions (e ∷ es)) n q ≡ true
-  room_for_another = others_room e es n p about (ap is_changed fate_is) touches_it
+  room_for_another = others_room e es n about (ap is_changed fate_is) touches_it

@@ -28,7 +28,18 @@ pub record IsFromNative (s : Settings) (j : Journal) (at : Ep) (p : Fields) : Ty
   pub other : same_ip6 p.src p.dst ≡ false
   pub small : is_big p ≡ false
 
-module _ (s : Settings) (j : Journal) (n : ℕ) (at : Ep) (p : Fields) (is : IsFromNative s j at p) where
+-- what came from a native host by a relay
+pub record FromNative : Type 0 where
+  pub s : Settings
+  pub j : Journal
+  pub n : ℕ
+  pub at : Ep
+  pub p : Fields
+  pub is : IsFromNative s j at p
+
+module _ (arrival : FromNative) where
+  open arrival use {s, j, n, at, p, is}
+
   abbrev v : Value
   v = value_written None None p
 
@@ -106,10 +117,10 @@ module _ (s : Settings) (j : Journal) (n : ℕ) (at : Ep) (p : Fields) (is : IsF
   step_is true x w = refl
   step_is false x w = refl
 
-  pub tests_it : (full : Bool) → IsTestable full → (x : List ℕ) → ReadsPayload v x → (w : Words) → TestsIt full x (nonce_from w) (client_in s j n at x w)
+  pub tests_it : {full : Bool} → IsTestable full → {x : List ℕ} → ReadsPayload v x → (w : Words) → TestsIt full x (nonce_from w) (client_in s j n at x w)
   unfolding standing_at
-  tests_it full new x reads w =
-      subst (TestsIt full x (nonce_from w)) (sym (entry_here s j n at x v reads w (tested_by full)
+  tests_it {full} new {x} reads w =
+      subst (TestsIt full x (nonce_from w)) (sym (entry_here s j n at x v reads w
       (native_is_tested full (seen_here s j n at x v reads) (advert_row s (standing_at s j n p.src).qualification at v) (suspect full new)
       (and_left (is_teredo p.src) (same_ep (embedded p.src) at) is.native)
       (answers_nothing (known (mentions j.entries) n p.src).nonce (message_in p) new.no_reply))

@@ -40,6 +40,6 @@ module _ (s : Settings) (j : Journal) (n : ℕ) (at : Ep) (x : List ℕ) (is : I
   pub handed_at_once : (w : Words) → handed_by (client_in s j n at x w) ≡ Some x
   unfolding standing_at
   handed_at_once w =
-      ap handed_by (entry_here s j n at x v is.reads w fate.Rule1 (trusted_is_handed (seen_here s j n at x v is.reads)
+      ap handed_by (entry_here s j n at x v is.reads w (trusted_is_handed (seen_here s j n at x v is.reads)
       (advert_row s (standing_at s j n (fields_in x).src).qualification at v) trusted))
       ∙ ap (λ (z : List ℕ). Some z) (take_rest x 0)

@@ -20,9 +20,9 @@ none_by s a from x v w fate.Rule2 e = absurd (false≢true (sym e))
 none_by s a from x v w fate.Rule3 e = absurd (false≢true (sym e))
 none_by s a from x v w _ e = record { handed = refl; late = refl }
 
-pub hands_nothing : (s : Settings) (j : Journal) (n : ℕ) (from : Ep) (x : List ℕ) (w : Words) (f : Fate) → (client_in s j n from x w).step.fate ≡ f
+pub hands_nothing : (s : Settings) (j : Journal) (n : ℕ) (from : Ep) (x : List ℕ) (w : Words) {f : Fate} → (client_in s j n from x w).step.fate ≡ f
     → is_handing f ≡ false → HandsNone (client_in s j n from x w).step
 unfolding client_in reception
-hands_nothing s j n from x w f same none =
+hands_nothing s j n from x w same none =
     let a : Standing = standing_of s j n (source_in x) in
     none_by s a from x (value_in x) w (reception_fate s a from x) (ap is_handing (sym (fate_of_reception s a from x w) ∙ same) ∙ none)

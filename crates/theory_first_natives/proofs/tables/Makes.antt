@@ -13,7 +13,7 @@ no_six ticked = refl
 
 -- THE RELAY
 
-module _ (lab : Lab) (H : List Full) (q : Full) (k : ℕ) (r : RelayNode) (e : Entry) (did : Did lab H q k (relay r) e) (sound : HasNoFault q) where
+module _ {lab : Lab} {H : List Full} {q : Full} {k : ℕ} {r : RelayNode} {e : Entry} (did : Did lab H q k (relay r) e) (sound : HasNoFault q) where
   -- one datagram leaves from its endpoint
   pub relay_sends : (to : Ep) (bytes : List ℕ) → e.step.sends ≡ send to bytes ∷ [] → e.step.six ≡ None → q.made ≡ sent (udp r.at to bytes) ∷ []
   relay_sends to bytes sends none = made_so ∙ unless (is_at_place 0 (armed H)) (subst (λ (ms : List Made). list_any is_fault ms ≡ false) made_so sound) where
@@ -46,7 +46,18 @@ host_sends own x one small src global =
     ap (λ (b : Bool). (sent_by x (native_row own b (fields_in x))).packet) one
     ∙ rw (small, (ap (λ (z : Ip6). same_ip6 z own) src ∙ same_ip6-self own), global) refl
 
-module _ (lab : Lab) (H : List Full) (q : Full) (m : ℕ) (h : NativeNode) (x : List ℕ) where
+-- a record of a native host, and a packet
+pub record NativeStep : Type 0 where
+  pub lab : Lab
+  pub H : List Full
+  pub q : Full
+  pub m : ℕ
+  pub h : NativeNode
+  pub x : List ℕ
+
+module _ (native_step : NativeStep) where
+  open native_step use {lab, H, q, m, h, x}
+
   -- it answers an echo request through its relay
   pub native_echoes : Did lab H q m (native h) (entry_of lab H (now H) m no_ep (from_six x) (native h)) → (y : List ℕ) → native_in x ≡ echoed y
       → is_teredo (fields_in y).dst ≡ true → q.made ≡ sent (six (Some h.relay) y) ∷ []

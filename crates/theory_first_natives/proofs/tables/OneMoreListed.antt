@@ -50,7 +50,7 @@ module _ (now_listed was_listed : Ip6 → Bool) (p : Ip6) (same : (q : Ip6) → 
     by false false e there ih some = rw (same q e ∙ there) (ih some)
 
 -- an entry that touches p
-module _ (e : Mention) (j : List Mention) (n : ℕ) (p : Ip6) (about : e.peer ≡ Some p) (touches : e.bearing.touches ≡ true) where
+module _ (e : Mention) (j : List Mention) (n : ℕ) {p : Ip6} (about : e.peer ≡ Some p) (touches : e.bearing.touches ≡ true) where
   -- leaves the others listed or not
   pub others_stay : (q : Ip6) → same_ip6 p q ≡ false → is_listed q n (e ∷ j) ≡ is_listed q n j
   unfolding is_listed

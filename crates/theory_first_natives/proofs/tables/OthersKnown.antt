@@ -3,14 +3,14 @@ use Rattle.theory_first_natives.proofs.Words.{Bool, Entry, Ip6, LISTED_MS, List,
 use Rattle.theory_first_natives.proofs.tables.OneMoreListed.{others_stay, room_beside}
 
 -- the entry is about p, touches it, and changes no address
-module _ (e : Entry) (es : List Entry) (n : ℕ) (p : Ip6) (about : e.peer ≡ Some p)
+module _ (e : Entry) (es : List Entry) (n : ℕ) {p : Ip6} (about : e.peer ≡ Some p)
     (keeps : is_changed e.step.fate ≡ false) (touches : (mention e).bearing.touches ≡ true) where
   mentions_are : mentions (e ∷ es) ≡ mention e ∷ mentions es
   mentions_are = next_mentions e es ∙ ap (λ (b : Bool). cond b [] (mention e ∷ mentions es)) keeps
 
   -- whether another one is listed stays
   pub others_listed : (q : Ip6) → same_ip6 p q ≡ false → is_listed q n (mentions (e ∷ es)) ≡ is_listed q n (mentions es)
-  others_listed q apart = ap (λ (ms : List Mention). is_listed q n ms) mentions_are ∙ others_stay (mention e) (mentions es) n p about touches q apart
+  others_listed q apart = ap (λ (ms : List Mention). is_listed q n ms) mentions_are ∙ others_stay (mention e) (mentions es) n about touches q apart
 
   -- so does what is known of it
   pub others_known : (q : Ip6) → same_ip6 p q ≡ false → known (mentions (e ∷ es)) n q ≡ known (mentions es) n q
@@ -26,4 +26,4 @@ module _ (e : Entry) (es : List Entry) (n : ℕ) (p : Ip6) (about : e.peer ≡ S
       → (is_listed q n (mentions es) ≡ false → is_listed p n (mentions es) ≡ false → length (listed (mentions es) n) + 2 ≤ PEERS_MAX)
       → has_room (mentions (e ∷ es)) n q ≡ true
   others_room q apart room two = ap (λ (ms : List Mention). has_room ms n q) mentions_are
-      ∙ room_beside (mention e) (mentions es) n p about touches q apart room two
+      ∙ room_beside (mention e) (mentions es) n about touches q apart room two

@@ -5,7 +5,17 @@ use Rattle.theory_first_natives.proofs.tables.NativeTables.{goes_to_trusted, goe
 
 -- THE ENTRY
 
-module _ (s : RelaySettings) (j : List Entry) (n : ℕ) (x : List ℕ) (is_one : is_packet x ≡ true) where
+-- a packet that a relay is given
+pub record GivenPacket : Type 0 where
+  pub s : RelaySettings
+  pub j : List Entry
+  pub n : ℕ
+  pub x : List ℕ
+  pub is_one : is_packet x ≡ true
+
+module _ (given_packet : GivenPacket) where
+  open given_packet use {s, j, n, x, is_one}
+
   abbrev to : Ip6
   to = (fields_in x).dst
 

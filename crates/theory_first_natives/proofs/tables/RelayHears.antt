@@ -25,10 +25,10 @@ module _ (s : RelaySettings) (j : List Entry) (n : ℕ) (from : Ep) (x : List �
       ∙ ap (λ (u : Value). relay_reception_row (relay_seen_of s standing_to from true u)) reads.value
 
   -- the entry with the fate of the row
-  pub entry_in : (f : Fate) → relay_reception_row seen_here ≡ f
+  pub entry_in : {f : Fate} → relay_reception_row seen_here ≡ f
       → relay_in s j n from x ≡ wordless_entry n (arrived from x) (packet_in x) (Some v.packet.src) (relay_reception_step standing_to x v f)
   unfolding relay_in relay_reception
-  entry_in f is =
+  entry_in {f} is =
       ap (λ (g : Fate). wordless_entry n (arrived from x) (packet_in x) (source_in x)
       (relay_reception_step (relay_standing_of j n (source_in x)) x (value_in x) g)) (row_is ∙ is)
       ∙ ap (λ (u : Value). wordless_entry n (arrived from x) (packet_in x) (source_in x)
@@ -41,7 +41,18 @@ pub unkeyed : (p : Fields) → is_keyed (value_written None None p).lead ≡ fal
 unfolding is_keyed
 unkeyed p = refl
 
-module _ (s : RelaySettings) (j : List Entry) (n : ℕ) (x : List ℕ) (p : Fields) (reads : ReadsPayload (value_written None None p) x) where
+-- a payload that a relay reads, and its fields
+pub record HeardPayload : Type 0 where
+  pub s : RelaySettings
+  pub j : List Entry
+  pub n : ℕ
+  pub x : List ℕ
+  pub p : Fields
+  pub reads : ReadsPayload (value_written None None p) x
+
+module _ (heard : HeardPayload) where
+  open heard use {s, j, n, x, p, reads}
+
   abbrev v : Value
   v = value_written None None p
 
@@ -69,6 +80,6 @@ module _ (s : RelaySettings) (j : List Entry) (n : ℕ) (x : List ℕ) (p : Fiel
   pub lets_go : is_big p ≡ false → is_teredo p.src ≡ true → is_bubble p ≡ true → is_listed p.src n (relay_mentions j) ≡ true
       → LetsGo (relay_in s j n (embedded p.src) x)
   unfolding relay_standing_at
-  lets_go small teredo bubble listed = subst LetsGo (sym (entry_in s j n (embedded p.src) x v reads fate.FromClientBubble
+  lets_go small teredo bubble listed = subst LetsGo (sym (entry_in s j n (embedded p.src) x v reads
       (bubble_is_heard (seen_here s j n (embedded p.src) x v reads) (record { peer = of_peer small teredo listed; bubble = bubble }))))
       (record { fate = refl; sends = refl; about = refl; moment = refl; nothing = refl })

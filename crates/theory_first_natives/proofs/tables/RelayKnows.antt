@@ -46,12 +46,23 @@ module _ (e : Entry) (es : List Entry) (n : ℕ) (p : Ip6) (is : TouchesClient e
 
 -- WHAT IS KNOWN AFTER EACH FATE
 
-module _ (e : Entry) (es : List Entry) (n : ℕ) (p : Ip6) (about : e.peer ≡ Some p) (moment : e.moment ≡ n) where
+-- an entry on a peer, and its moment
+pub record AboutPeer : Type 0 where
+  pub e : Entry
+  pub es : List Entry
+  pub n : ℕ
+  pub p : Ip6
+  pub about : e.peer ≡ Some p
+  pub moment : e.moment ≡ n
+
+module _ (about_peer : AboutPeer) where
+  open about_peer use {e, es, n, p, about, moment}
+
   abbrev later : Peer
   later = known (relay_mentions (e ∷ es)) n p
 
-  touched : (f : Fate) → e.step.fate ≡ f → (relay_bearing_of f e).touches ≡ true → TouchesClient e n p
-  touched f same touches = record {
+  touched : {f : Fate} → e.step.fate ≡ f → (relay_bearing_of f e).touches ≡ true → TouchesClient e n p
+  touched same touches = record {
     peer = about;
     moment = moment;
     touches = ap (λ (g : Fate). (relay_bearing_of g e).touches) same ∙ touches;
@@ -62,8 +73,8 @@ module _ (e : Entry) (es : List Entry) (n : ℕ) (p : Ip6) (about : e.peer ≡ S
     pub listed : is_listed p n (relay_mentions (e ∷ es)) ≡ true
     pub waiting : later.waiting ≡ x ∷ []
 
-  pub after_queued : (x : List ℕ) → e.step.fate ≡ fate.Queued → e.packet ≡ Some x → (known (relay_mentions es) n p).waiting ≡ [] → KeepsFor x
-  after_queued x f packet none = let is = touched fate.Queued f refl in record {
+  pub after_queued : {x : List ℕ} → e.step.fate ≡ fate.Queued → e.packet ≡ Some x → (known (relay_mentions es) n p).waiting ≡ [] → KeepsFor x
+  after_queued f packet none = let is = touched f refl in record {
     listed = listed_after e es n p is;
     waiting = waits_after e es n p is fate.Queued f ∙ ap (λ (ws : List (List ℕ)). ws ++ option_to_list e.packet) none
         ∙ ap (λ (o : Option (List ℕ)). option_to_list o) packet;
@@ -78,20 +89,20 @@ module _ (e : Entry) (es : List Entry) (n : ℕ) (p : Ip6) (about : e.peer ≡ S
     option_of : Option Ip6 → Option Ep
     option_of o = (relay_bearing_of fate.SentCone (record e { peer = o })).trusts
 
-  trusts_by_fate : (f : Fate) → e.step.fate ≡ f → (relay_bearing_of f e).touches ≡ true → here (relay_bearing_of f e).trusts ≡ true
+  trusts_by_fate : {f : Fate} → e.step.fate ≡ f → (relay_bearing_of f e).touches ≡ true → here (relay_bearing_of f e).trusts ≡ true
       → is_some later.trusted ≡ true
-  trusts_by_fate f same touches trusts =
-      ap (λ (o : Option Ep). is_some o) (trusted_after e es n p (touched f same touches) f same) ∙ trusts
+  trusts_by_fate {f} same touches trusts =
+      ap (λ (o : Option Ep). is_some o) (trusted_after e es n p (touched same touches) f same) ∙ trusts
 
   -- it trusts a cone client that it sent to, and one that it trusted
   pub after_sent_cone : e.step.fate ≡ fate.SentCone → is_some later.trusted ≡ true
-  after_sent_cone f = trusts_by_fate fate.SentCone f refl at_embedded
+  after_sent_cone f = trusts_by_fate f refl at_embedded
 
   pub after_sent : e.step.fate ≡ fate.Sent → is_some (known (relay_mentions es) n p).trusted ≡ true → is_some later.trusted ≡ true
-  after_sent f trusted = trusts_by_fate fate.Sent f refl trusted
+  after_sent f trusted = trusts_by_fate f refl trusted
 
   pub after_its_packet : e.step.fate ≡ fate.FromClient → is_some later.trusted ≡ true
-  after_its_packet f = trusts_by_fate fate.FromClient f refl at_embedded
+  after_its_packet f = trusts_by_fate f refl at_embedded
 
   -- it trusts one that it heard from
   pub record TrustsIt : Type 0 where
@@ -100,7 +111,7 @@ module _ (e : Entry) (es : List Entry) (n : ℕ) (p : Ip6) (about : e.peer ≡ S
     pub trusted : is_some later.trusted ≡ true
 
   pub after_its_bubble : e.step.fate ≡ fate.FromClientBubble → TrustsIt
-  after_its_bubble f = let is = touched fate.FromClientBubble f refl in record {
+  after_its_bubble f = let is = touched f refl in record {
     listed = listed_after e es n p is;
     waiting = waits_after e es n p is fate.FromClientBubble f;
     trusted = ap (λ (o : Option Ep). is_some o) (trusted_after e es n p is fate.FromClientBubble f) ∙ at_embedded;

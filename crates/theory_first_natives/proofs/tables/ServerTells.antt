@@ -13,18 +13,18 @@ module _ (p : Trio) (is : IsTrio p) where
 
   -- the relay may tell of itself
   pub may_tell : MayTell p.lab row p.r.six p.r.at
-  may_tell = endpoint.may_tell p.lab p.a p.k p.r (is_beside p is)
+  may_tell = endpoint.may_tell (is_beside p is)
 
   -- what the client's address embeds is none of the server's addresses
   pub no_own : is_own s (embedded p.a.own).ip ≡ false
-  no_own = server_tells.no_own p.lab p.a is.end p.r.six p.r.at may_tell
+  no_own = server_tells.no_own (record { lab = p.lab; a = p.a; end = is.end; peer = p.r.six; from = p.r.at; may = may_tell })
 
   pub server_made : IsEp (server_ep row.primary)
-  server_made = server_tells.server_made p.lab p.a is.end p.r.six p.r.at may_tell
+  server_made = server_tells.server_made (record { lab = p.lab; a = p.a; end = is.end; peer = p.r.six; from = p.r.at; may = may_tell })
 
   -- the bubble reads back
   pub reads : ReadsBubble p.r.six p.a.own (bubble_bytes p.r.six p.a.own)
-  reads = server_tells.reads p.lab p.a is.end p.r.six p.r.at may_tell
+  reads = server_tells.reads (record { lab = p.lab; a = p.a; end = is.end; peer = p.r.six; from = p.r.at; may = may_tell })
 
   -- what the server sends
   abbrev pub told : List ℕ

@@ -33,16 +33,26 @@ module _ (the : TrioRecord) where
     touches = ap (λ (g : Fate). (relay_bearing_of g e).touches) same ∙ touches;
   }
 
+  -- a packet to the client that an idle relay was given
+  pub record IdleRelayGiven : Type 0 where
+    pub x : List ℕ
+    pub one : is_packet x ≡ true
+    pub to : (fields_in x).dst ≡ own
+    pub for_client : gives.IsForClient (record { s = s; j = j; n = now H; x = x; is_one = one })
+    pub did : Did p.lab H q p.k (relay p.r) (relay_six s j (now H) x)
+    pub idle : RelayIdle p H
+
   -- after a packet of the native
-  module _ (x : List ℕ) (one : is_packet x ≡ true) (to : (fields_in x).dst ≡ own) (for_client : gives.IsForClient s j (now H) x one)
-      (did : Did p.lab H q p.k (relay p.r) (relay_six s j (now H) x)) (idle : RelayIdle p H) where
+  module _ (idle_given : IdleRelayGiven) where
+    open idle_given use {x, one, to, for_client, did, idle}
+
     abbrev e : Entry
     e = relay_six s j (now H) x
 
     -- for a client that it trusts
     pub idle_after_sent : is_some (known (relay_mentions j) (now H) own).trusted ≡ true → RelayIdle p (q ∷ H)
     idle_after_sent trusted =
-        let g = gives.goes_at_once s j (now H) x one for_client
+        let g = gives.goes_at_once (record { s = s; j = j; n = now H; x = x; is_one = one }) for_client
         (ap (λ (z : Ip6). is_some (known (relay_mentions j) (now H) z).trusted) to ∙ trusted) in
         at_same_moment (RelayIdleAt p) H q p.k (with_entry (journal p.k H) e) did.moment did.later
         (waits_after e j (now H) own
@@ -53,7 +63,7 @@ module _ (the : TrioRecord) where
     pub idle_after_cone : is_some (known (relay_mentions j) (now H) own).trusted ≡ false → has_room (relay_mentions j) (now H) own ≡ true
         → has_cone own ≡ true → RelayIdle p (q ∷ H)
     idle_after_cone untrusted room cone =
-        let g = gives.goes_to_a_cone s j (now H) x one for_client
+        let g = gives.goes_to_a_cone (record { s = s; j = j; n = now H; x = x; is_one = one }) for_client
         (ap (λ (z : Ip6). is_some (known (relay_mentions j) (now H) z).trusted) to ∙ untrusted)
         (ap (λ (z : Ip6). has_room (relay_mentions j) (now H) z) to ∙ room) (ap has_cone to ∙ cone) in
         at_same_moment (RelayIdleAt p) H q p.k (with_entry (journal p.k H) e) did.moment did.later

@@ -33,30 +33,30 @@ module _ (the : EnquiryRecord) (y : List ℕ) (same : (native_in the.p.packet).p
   small = answer_is_small own t.h.six p.packet y (asked_of the) same
 
   -- at the relay
-  pub answer_at_relay : (last : ℕ) (later : List Full) → Delivery t.lab H q last → length (wire H) ≡ suc last → OnSix H last (Some t.k) y
+  pub answer_at_relay : {last : ℕ} (later : List Full) → Delivery t.lab H q last → length (wire H) ≡ suc last → OnSix H last (Some t.k) y
       → TrustsClient t H → Believes p H → IsOpen t H → AnswerNext p H q last later 2
-  answer_at_relay last later d long at trusts believes way =
+  answer_at_relay {last} later d long at trusts believes way =
       let came = comes_by_six (in_trio the) last y d at in
       let may = for_client (in_trio the) y between.packet between.source between.destination small in
       let more = one_more H q last (udp t.r.at (embedded own) y) long
-      (goes_at_once (in_trio the) y between.packet between.destination may came.did trusts) in
+      (goes_at_once (in_trio the) (record { x = y; one = between.packet; to = between.destination; for_client = may }) came.did trusts) in
       let client = no_relay_client (in_trio the) in
       goes_back (ground_stays the t.k came.did.node client came.calm came.did.moment) more.longer
       (comes_back y same more.at (stays the (BelievesAt p) t.k t.a.n came.did.node client came.did.moment believes)
       (still_open (in_trio the) (next_is (in_trio the) came.calm came.did.moment) way))
 
   -- at the client, whose host is handed it
-  pub answer_at_client : (last : ℕ) (later : List Full) → Delivery t.lab H q last → length (wire H) ≡ suc last → At H last t.r.at (embedded own) y
+  pub answer_at_client : {last : ℕ} (later : List Full) → Delivery t.lab H q last → length (wire H) ≡ suc last → At H last t.r.at (embedded own) y
       → Believes p H → IsOpen t H → AnswerNext p H q last later 1
-  answer_at_client last later d long at believes way =
+  answer_at_client {last} later d long at believes way =
       let src = between.source in
       let dst = between.destination in
       let came = steps.comes_to_client (in_trio the) last t.r.at y d at way in
       let reads = payload (in_trio the) last (udp t.r.at (embedded own) y) at (fields_in y) (read_as y between.packet) in
-      let got : Entry = steps.got (in_trio the) y src dst small in
-      let g = replied.hands_it s j (now H) t.r.at (fields_in y) (steps.from_native (in_trio the) y src dst small) y reads (words t.lab t.a.n H)
+      let got : Entry = steps.got (in_trio the) (record { x = y; src = src; dst = dst; little = small }) in
+      let g = replied.hands_it (record { s = s; j = j; n = now H; at = t.r.at; p = fields_in y; is = steps.from_native (in_trio the) (record { x = y; src = src; dst = dst; little = small }) }) y reads (words t.lab t.a.n H)
       between.no_bubble (ap (λ (z : Ip6). is_trusted_at t.r.at (known (mentions j.entries) (now H) z)) src ∙ believes.trusted) in
-      let gone = all_leaves t.lab H q t.a got (sends (in_trio the) got came.did) []
+      let gone = all_leaves (sends (in_trio the) got came.did) []
       (g.hears.sends ∙ ap (λ (z : Ip6). releases t.r.at (known (mentions j.entries) (now H) z).waiting) src ∙ ap (releases t.r.at) believes.waiting) tt in
       let next = next_is (in_trio the) came.calm came.did.moment in
       let by : HandsAnswer t.a.n y q = record {

@@ -55,13 +55,23 @@ module _ (p : Enquiry) (before : List Full) (r : Full) where
   steps_of_some y e = ap steps_by e
 
   -- in a complete schedule nothing is left open
-  none_left : (later : List Full) (last : ℕ) (opened : Bool) → AreOpen r.first last false opened later → length (wire (after later)) ≡ suc last
+  none_left : {later : List Full} {last : ℕ} {opened : Bool} → AreOpen r.first last false opened later → length (wire (after later)) ≡ suc last
       → IsComplete before r later → opened ≡ true → ⊥
-  none_left later last opened are long all is =
+  none_left {last} are long all is =
       let it = are.last_is is in
       false≢true (sym it.1 ∙ all last it.0 (omega (arith, long)))
 
-  module _ (is : IsEnquiry p) (later : List Full) (q : Full) (fresh : DeliversFresh r later q) (g : Grown t.lab (q ∷ after later)) where
+  -- one more delivery of a fresh schedule
+  pub record Turn : Type 0 where
+    pub is : IsEnquiry p
+    pub later : List Full
+    pub q : Full
+    pub fresh : DeliversFresh r later q
+    pub g : Grown t.lab (q ∷ after later)
+
+  module _ (next_turn : Turn) where
+    open next_turn use {is, later, q, fresh, g}
+
     abbrev H : List Full
     H = after later
 
@@ -76,22 +86,22 @@ module _ (p : Enquiry) (before : List Full) (r : Full) where
       abbrev latest : EnquiryRecord
       latest = record { p = p; asked = is; H = H; q = q; r = is_record }
 
-      advance : (left : ℕ) → ToStage p H way.last left → Delivery t.lab H q way.last → ToNext p H q way.last left
-      advance _ (asks at waits onward_is) d = at_server latest way.last d way.long at waits onward_is
-      advance _ (crosses at waits onward_is) d = at_native latest way.last d way.long at waits onward_is
-      advance _ (echoes at waits onward_is) d = at_relay latest way.last d way.long at waits p.asks onward_is
-      advance _ (bubbles at keeps waits may) d = bubble_at_server latest way.last d way.long at keeps waits may
-      advance _ (tells at keeps waits may) d = bubble_at_client latest way.last d way.long at keeps waits may
-      advance _ (answers at keeps waits open_way) d = bubble_at_relay latest way.last d way.long at keeps waits open_way
-      advance _ (replies at trusts idle waits open_way) d =
-          reply_at_client latest way.last d way.long at trusts idle waits open_way
-      advance _ (goes at trusts idle believes open_way) d =
-          packet_at_relay latest way.last d way.long at trusts idle believes open_way
-      advance _ (comes at trusts believes open_way) d =
+      advance : {left : ℕ} → ToStage p H way.last left → Delivery t.lab H q way.last → ToNext p H q way.last left
+      advance (asks at waits onward_is) d = at_server latest way.last d way.long at waits onward_is
+      advance (crosses at waits onward_is) d = at_native latest way.last d way.long at waits onward_is
+      advance (echoes at waits onward_is) d = at_relay latest (record { last = way.last; d = d; long = way.long; at = at; waits = waits }) p.asks onward_is
+      advance (bubbles at keeps waits may) d = bubble_at_server latest way.last d way.long at keeps waits may
+      advance (tells at keeps waits may) d = bubble_at_client latest way.last d way.long at keeps waits may
+      advance (answers at keeps waits open_way) d = bubble_at_relay latest way.last d way.long at keeps waits open_way
+      advance (replies at trusts idle waits open_way) d =
+          reply_at_client latest (record { last = way.last; d = d; long = way.long; at = at; trusts = trusts; idle = idle; waits = waits; way = open_way })
+      advance (goes at trusts idle believes open_way) d =
+          packet_at_relay latest d way.long at trusts idle believes open_way
+      advance (comes at trusts believes open_way) d =
           packet_at_native latest way.last at d way.long trusts believes open_way
 
-      moves : (left : ℕ) → length later + left ≡ all_steps p.asks → q.delivered ≡ Some way.last → ToNext p H q way.last left → Board (q ∷ later)
-      moves _ sum by (goes_on k ground long stage) = under_way (record {
+      moves : {left : ℕ} → length later + left ≡ all_steps p.asks → q.delivered ≡ Some way.last → ToNext p H q way.last left → Board (q ∷ later)
+      moves sum by (goes_on k ground long stage) = under_way (record {
         last = suc way.last;
         left = suc k;
         ground = ground;
@@ -101,7 +111,7 @@ module _ (p : Enquiry) (before : List Full) (r : Full) where
         more = omega arith;
         sum = omega (arith, sum);
       })
-      moves _ sum by (is_kept ground come none long) =
+      moves sum by (is_kept ground come none long) =
           let steps : answer_steps p ≡ 0 = steps_of_none none in
           has_come (record { rest = []; first = q ∷ later; split = refl; few = omega (arith, sum); comes = inl come })
           (record {
@@ -113,7 +123,7 @@ module _ (p : Enquiry) (before : List Full) (r : Full) where
             stage = is_over (λ y same. absurd (false≢true (ap (λ (o : Option (List ℕ)). is_some o) (sym none ∙ same))));
             sum = omega (arith, sum, steps);
           })
-      moves _ sum by (is_answered_by ground come y same long at trusts believes open_way) =
+      moves sum by (is_answered_by ground come y same long at trusts believes open_way) =
           let steps : answer_steps p ≡ 2 = steps_of_some y same in
           has_come (record { rest = []; first = q ∷ later; split = refl; few = omega (arith, sum); comes = inl come })
           (record {
@@ -131,20 +141,20 @@ module _ (p : Enquiry) (before : List Full) (r : Full) where
         by : ((false ≡ true) × (fresh.number ≡ r.first)) ⊎ ((true ≡ true) × (fresh.number ≡ way.last)) → Board (q ∷ later)
         by (inl e) = absurd (false≢true e.0)
         by (inr e) =
-            moves way.left way.sum (fresh.delivered ∙ ap (λ (n : ℕ). Some n) e.1)
-            (advance way.left way.stage (subst (Delivery t.lab H q) e.1 came))
+            moves way.sum (fresh.delivered ∙ ap (λ (n : ℕ). Some n) e.1)
+            (advance way.stage (subst (Delivery t.lab H q) e.1 came))
 
     -- so it is where the answer is
     module _ (past : Past later) where
       past_record : IsRecord t H q
       past_record = record { trio = is.trio; ground = past.ground; follows = g.0; sound = fresh.sound }
 
-      answers_on : (left : ℕ) → is_open left ≡ true → Answering p H past.last later left → Delivery t.lab H q past.last → AnswerNext p H q past.last later left
-      answers_on _ opened (returns y same at trusts believes open_way) d =
-          answer_at_relay (record { p = p; asked = is; H = H; q = q; r = past_record }) y same past.last later d past.long at trusts believes open_way
-      answers_on _ opened (comes_back y same at believes open_way) d =
-          answer_at_client (record { p = p; asked = is; H = H; q = q; r = past_record }) y same past.last later d past.long at believes open_way
-      answers_on _ opened (is_over done) d = absurd (false≢true opened)
+      answers_on : {left : ℕ} → is_open left ≡ true → Answering p H past.last later left → Delivery t.lab H q past.last → AnswerNext p H q past.last later left
+      answers_on opened (returns y same at trusts believes open_way) d =
+          answer_at_relay (record { p = p; asked = is; H = H; q = q; r = past_record }) y same later d past.long at trusts believes open_way
+      answers_on opened (comes_back y same at believes open_way) d =
+          answer_at_client (record { p = p; asked = is; H = H; q = q; r = past_record }) y same later d past.long at believes open_way
+      answers_on opened (is_over done) d = absurd (false≢true opened)
 
       returned : {left : ℕ} → AreOpen r.first past.last false (is_open left) later → length later + left ≡ all_steps p.asks + answer_steps p
           → q.delivered ≡ Some past.last → AnswerNext p H q past.last later left → Past (q ∷ later)
@@ -172,7 +182,7 @@ module _ (p : Enquiry) (before : List Full) (r : Full) where
         by : ((false ≡ true) × (fresh.number ≡ r.first)) ⊎ ((is_open past.left ≡ true) × (fresh.number ≡ past.last)) → Past (q ∷ later)
         by (inl e) = absurd (false≢true e.0)
         by (inr e) = returned past.are past.sum (fresh.delivered ∙ ap (λ (n : ℕ). Some n) e.1)
-            (answers_on past.left e.0 past.stage (subst (Delivery t.lab H q) e.1 came))
+            (answers_on e.0 past.stage (subst (Delivery t.lab H q) e.1 came))
 
     -- one delivery more brings the packet no later
     still : ComesWithin (all_steps p.asks) t.m p.packet later → ComesWithin (all_steps p.asks) t.m p.packet (q ∷ later)
@@ -185,7 +195,7 @@ module _ (p : Enquiry) (before : List Full) (r : Full) where
   -- so is the whole schedule
   pub boards : IsEnquiry p → (later : List Full) → Grown t.lab (after later) → AreFresh r later → Board [] → Board later
   boards is [] g fresh board = board
-  boards is (q ∷ later) g fresh board = next_board is later q fresh.0 g (boards is later g.1 fresh.1 board)
+  boards is (q ∷ later) g fresh board = next_board (record { is = is; later = later; q = q; fresh = fresh.0; g = g }) (boards is later g.1 fresh.1 board)
 
   -- so there are no more deliveries than that
   pub few_in_all : (later : List Full) → Board later → length later ≤ all_steps p.asks + answer_steps p
@@ -201,14 +211,14 @@ module _ (p : Enquiry) (before : List Full) (r : Full) where
 
   -- so it has where no entry is left
   pub arrives : (later : List Full) → Board later → IsComplete before r later → ComesWithin (all_steps p.asks) t.m p.packet later
-  arrives later (under_way way) all = absurd (none_left later way.last true way.are way.long all refl)
+  arrives later (under_way way) all = absurd (none_left way.are way.long all refl)
   arrives later (has_come come past) all = come
 
   -- and then the answer has come too
   pub answered : (later : List Full) → Board later → IsComplete before r later → (y : List ℕ) → (native_in p.packet).packet ≡ Some y
       → HasAnswered t.a.n y later
-  answered later (under_way way) all y same = absurd (none_left later way.last true way.are way.long all refl)
-  answered later (has_come come past) all y same = by past.left past.stage (none_left later past.last (is_open past.left) past.are past.long all) where
+  answered later (under_way way) all y same = absurd (none_left way.are way.long all refl)
+  answered later (has_come come past) all y same = by past.left past.stage (none_left past.are past.long all) where
     by : (left : ℕ) → Answering p (after later) past.last later left → (is_open left ≡ true → ⊥) → HasAnswered t.a.n y later
     by _ (returns x e at trusts believes open_way) shut = absurd (shut refl)
     by _ (comes_back x e at believes open_way) shut = absurd (shut refl)

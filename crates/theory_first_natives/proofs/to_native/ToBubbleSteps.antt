@@ -34,9 +34,9 @@ module _ (the : EnquiryRecord) where
       → WaitsAt p (with_entry j e) (now H)
   waits_on e about keeps touches waits =
       let apart = sixes_apart t.lab.topology is.rules t.k t.m t.r t.h is.relay_there is.native_there in
-      let same = others_known e j.entries (now H) t.r.six about keeps touches t.h.six apart in
+      let same = others_known e j.entries (now H) about keeps touches t.h.six apart in
       record {
-        listed = others_listed e j.entries (now H) t.r.six about keeps touches t.h.six apart ∙ waits.listed;
+        listed = others_listed e j.entries (now H) about keeps touches t.h.six apart ∙ waits.listed;
         waiting = ap (λ (k : Peer). k.waiting) same ∙ waits.waiting;
         tested = ap (λ (k : Peer). k.nonce) same ∙ waits.tested;
         stale = ap (is_fresh (now H)) same ∙ waits.stale;

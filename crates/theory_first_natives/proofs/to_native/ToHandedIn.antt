@@ -138,7 +138,7 @@ module _ (p : Enquiry) (H : List Full) (r : Full) (start : IsToStart p H r) wher
   asked = given_to.asks_first s j (now H) y (words t.lab t.a.n H) for_tested
 
   made : r.made ≡ sent (udp (embedded own) (asks_at t.lab t.a.c) (test_of t p.nonce)) ∷ []
-  made = (all_leaves t.lab H r t.a e (sends latest e did) (send (asks_at t.lab t.a.c) (test_of t p.nonce) ∷ [])
+  made = (all_leaves (sends latest e did) (send (asks_at t.lab t.a.c) (test_of t p.nonce) ∷ [])
       (asked.sends
       ∙ ap (λ (z : Ip6). send (asks_at t.lab t.a.c) (test_bytes z (fields_in y).dst (nonce_from (words t.lab t.a.n H))) ∷ []) start.next.handed.packet.source
       ∙ ap (λ (z : Ip6). send (asks_at t.lab t.a.c) (test_bytes own z (nonce_from (words t.lab t.a.n H))) ∷ []) start.next.handed.packet.destination

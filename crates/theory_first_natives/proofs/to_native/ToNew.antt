@@ -4,7 +4,7 @@ use Rattle.theory_first_natives.proofs.Words.{AreNewToEachOther, Bool, ClientNod
 use Rattle.theory_first_natives.proofs.tables.ClientHere.{not_fresh, nobody_barred}
 use Rattle.theory_first_natives.proofs.NewToEachOther.{unknown_host, unknown_client, untrusted, may_meet}
 
-module _ (lab : Lab) (H : List Full) (n m k : ℕ) (a : ClientNode) (h : NativeNode) (r : RelayNode) (own : Ip6)
+module _ {lab : Lab} {H : List Full} {n m k : ℕ} {a : ClientNode} {h : NativeNode} {r : RelayNode} {own : Ip6}
     (new : AreNewToEachOther lab H n m k a h r own) where
   may_reach : MayReachNative lab H n m k a h r own
   may_reach =
@@ -35,8 +35,8 @@ module _ (lab : Lab) (H : List Full) (n m k : ℕ) (a : ClientNode) (h : NativeN
 
 pub each_first : OfEachSchedule FirstToNativeArrivesAlong
 each_first lab H q later rules chained g n m k a h r own x first fresh =
-    subst (GetsToNative H q n m x later) (most_is lab H n m k a h r own first.nodes)
+    subst (GetsToNative H q n m x later) (most_is first.nodes)
     (subst (λ (b : Bool). GetsToNative H q n m x later (most_deliveries (not b && not (has_cone own))))
     (untrusted lab H n m k a h r own first.nodes)
     (each_next lab H q later rules chained g n m k a h r own x
-    (record { nodes = may_reach lab H n m k a h r own first.nodes; handed = first.handed }) fresh))
+    (record { nodes = may_reach first.nodes; handed = first.handed }) fresh))

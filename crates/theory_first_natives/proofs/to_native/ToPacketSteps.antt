@@ -44,9 +44,9 @@ module _ (the : EnquiryRecord) where
   relay_did = (journal t.k H).entries
 
   -- at the relay
-  pub packet_at_relay : (last : ℕ) → Delivery t.lab H q last → length (wire H) ≡ suc last → At H last (embedded own) t.r.at y → TrustsClient t H
+  pub packet_at_relay : {last : ℕ} → Delivery t.lab H q last → length (wire H) ≡ suc last → At H last (embedded own) t.r.at y → TrustsClient t H
       → RelayIdle t H → Believes p H → IsOpen t H → ToNext p H q last 2
-  packet_at_relay last d long at trusts idle believes way =
+  packet_at_relay {last} d long at trusts idle believes way =
       let src = asked.packet.source in
       let came = comes_by_datagram (in_trio the) last (embedded own) y d at in
       let reads = payload (in_trio the) last (udp (embedded own) t.r.at y) at (fields_in y) (read_as y asked.packet.packet) in
@@ -62,13 +62,19 @@ module _ (the : EnquiryRecord) where
             ∙ ap (λ (k : ℕ). list_any (same_ip6 t.h.six) (relay_settings t.lab.topology k t.r).served) (sym is.through)
             ∙ is_served t.lab.topology t.m t.h is.native_there;
       })) in
-      let made = one_passes t.lab H q t.k t.r e came.did (embedded own) y
+      let made = one_passes H came.did (embedded own) y
       (g.sends ∙ ap (λ (z : Ip6). releases (embedded z) (known (relay_mentions relay_did) (now H) z).waiting) src ∙ ap (releases (embedded own)) idle)
       g.six (g.came ∙ ap (λ (z : Ip6). arrived (embedded z) y) src) in
       let more = one_more H q last (six None y) long made in
       let client = no_relay_client (in_trio the) in
-      let then = relay_knows.after_its_packet e relay_did (now H) own
-      (g.about ∙ ap (λ (z : Ip6). Some z) src) g.moment g.fate in
+      let then = relay_knows.after_its_packet (record {
+        e = e;
+        es = relay_did;
+        n = now H;
+        p = own;
+        about = g.about ∙ ap (λ (z : Ip6). Some z) src;
+        moment = g.moment;
+      }) g.fate in
       goes_on 0 (ground_stays the t.k came.did.node client came.calm came.did.moment) more.longer
       (comes more.at
       (at_same_moment (TrustsClientAt t) H q t.k (with_entry (journal t.k H) e) came.did.moment came.did.later then)

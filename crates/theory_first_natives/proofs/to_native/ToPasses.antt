@@ -30,7 +30,7 @@ module _ (s : RelaySettings) (j : List Entry) (n : ℕ) (x : List ℕ) (p : Fiel
 
   pub passes_it_on : IsOfClient → Passes (relay_in s j n (embedded p.src) x)
   unfolding relay_standing_at
-  passes_it_on is = subst Passes (sym (entry_in s j n (embedded p.src) x v reads fate.FromClient
+  passes_it_on is = subst Passes (sym (entry_in s j n (embedded p.src) x v reads
       (packet_goes_on (seen_here s j n (embedded p.src) x v reads) (record {
         peer = record {
           payload = refl;
@@ -46,9 +46,9 @@ module _ (s : RelaySettings) (j : List Entry) (n : ℕ) (x : List ℕ) (p : Fiel
       (record { fate = refl; sends = refl; six = refl; about = refl; moment = refl; came = refl })
 
 -- the packet goes to the IPv6 side, and nothing else leaves
-pub one_passes : (lab : Lab) (H : List Full) (q : Full) (k : ℕ) (r : RelayNode) (e : Entry) → Did lab H q k (relay r) e → (from : Ep) (x : List ℕ)
+pub one_passes : {lab : Lab} (H : List Full) {q : Full} {k : ℕ} {r : RelayNode} {e : Entry} → Did lab H q k (relay r) e → (from : Ep) (x : List ℕ)
     → e.step.sends ≡ [] → e.step.six ≡ Some (rest_of 0 x) → e.input ≡ arrived from x → q.made ≡ sent (six None x) ∷ []
-one_passes lab H q k r e did from x sends passes input =
+one_passes H {r} {e} did from x sends passes input =
     did.made
     ∙ ap (λ (xs : List Send). outright (own_ep (relay r)) (armed H) 0 xs ++ six_made e.input e.step.six) sends
     ∙ ap (λ (i : Input). six_made i e.step.six) input

@@ -8,7 +8,18 @@ use Rattle.theory_first_natives.proofs.tables.NativeReads.{answer}
 use Rattle.theory_first_natives.proofs.tables.ClientTests.{IsFromNative, for_client, seen_so}
 use Rattle.theory_first_natives.proofs.tables.ClientHands as hands
 
-module _ (s : Settings) (j : Journal) (n : ℕ) (at : Ep) (p : Fields) (is : IsFromNative s j at p) where
+-- what came from a native host by a relay
+pub record RepliedBy : Type 0 where
+  pub s : Settings
+  pub j : Journal
+  pub n : ℕ
+  pub at : Ep
+  pub p : Fields
+  pub is : IsFromNative s j at p
+
+module _ (arrival : RepliedBy) where
+  open arrival use {s, j, n, at, p, is}
+
   abbrev peer : Peer
   peer = known (mentions j.entries) n p.src
 
@@ -28,10 +39,10 @@ module _ (s : Settings) (j : Journal) (n : ℕ) (at : Ep) (p : Fields) (is : IsF
       pub hears : Hears fate.Rule1 x e
       pub handed : handed_by e ≡ Some x
 
-    trusted_by : is_bubble p ≡ false → is_trusted_at at peer ≡ true → IsTrusted false (seen_so s j n at p is)
+    trusted_by : is_bubble p ≡ false → is_trusted_at at peer ≡ true → IsTrusted false (seen_so (record { s = s; j = j; n = n; at = at; p = p; is = is }))
     unfolding standing_at
     trusted_by plain trusted = record {
-      direct = record { mine = for_client s j n at p is; direct = is.elsewhere };
+      direct = record { mine = for_client (record { s = s; j = j; n = n; at = at; p = p; is = is }); direct = is.elsewhere };
       trusted = trusted;
       kind = plain;
     }
@@ -39,7 +50,7 @@ module _ (s : Settings) (j : Journal) (n : ℕ) (at : Ep) (p : Fields) (is : IsF
     pub hands_it : is_bubble p ≡ false → is_trusted_at at peer ≡ true → Hands (client_in s j n at x w)
     unfolding standing_at
     hands_it plain trusted =
-        subst Hands (sym (entry_here s j n at x (value_written None None p) reads w fate.Rule1
+        subst Hands (sym (entry_here s j n at x (value_written None None p) reads w
         (trusted_is_handed (seen_here s j n at x (value_written None None p) reads)
         (advert_row s (standing_at s j n p.src).qualification at (value_written None None p)) (trusted_by plain trusted))))
         (record {
@@ -53,8 +64,8 @@ module _ (s : Settings) (j : Journal) (n : ℕ) (at : Ep) (p : Fields) (is : IsF
     unfolding client_in
     came_in = refl
 
-    pub believes_it : (nonce : ℕ) → hands.Waits s j n at p is nonce → message_in p ≡ Some (answer nonce)
+    pub believes_it : {nonce : ℕ} → hands.Waits (record { s = s; j = j; n = n; at = at; p = p; is = is; nonce = nonce }) → message_in p ≡ Some (answer nonce)
         → Hears fate.Rule2 x (client_in s j n at x w)
-    believes_it nonce waits message =
-        let g = hands.hands_late_it s j n at p is nonce waits message x reads w in
+    believes_it {nonce} waits message =
+        let g = hands.hands_late_it (record { s = s; j = j; n = n; at = at; p = p; is = is; nonce = nonce }) waits message reads w in
         record { fate = g.fate; sends = g.sends; about = g.about; moment = g.moment; came = came_in }

@@ -38,9 +38,21 @@ module _ (the : EnquiryRecord) where
   says = ap (λ (z : List ℕ). message_in (fields_in z)) asked.reply
       ∙ reply_message own t.h.six (six_of_own (in_trio the)) (six_of_host (in_trio the)) p.nonce
 
+  -- the reply to the test is delivered, the latest entry, while the client waits for it
+  pub record ReplyComes : Type 0 where
+    pub last : ℕ
+    pub d : Delivery t.lab H q last
+    pub long : length (wire H) ≡ suc last
+    pub at : At H last t.r.at (embedded own) t.x
+    pub trusts : TrustsClient t H
+    pub idle : RelayIdle t H
+    pub waits : Waits p H
+    pub way : IsOpen t H
+
   -- at the client
-  module _ (last : ℕ) (d : Delivery t.lab H q last) (long : length (wire H) ≡ suc last) (at : At H last t.r.at (embedded own) t.x)
-      (trusts : TrustsClient t H) (idle : RelayIdle t H) (waits : Waits p H) (way : IsOpen t H) where
+  module _ (reply_comes : ReplyComes) where
+    open reply_comes use {last, d, long, at, trusts, idle, waits, way}
+
     abbrev src : (fields_in t.x).src ≡ t.h.six
     src = is.packet.source
 
@@ -51,19 +63,19 @@ module _ (the : EnquiryRecord) where
     reads = payload (in_trio the) last (udp t.r.at (embedded own) t.x) at (fields_in t.x) (read_as t.x is.packet.packet)
 
     from : IsFromNative s j t.r.at (fields_in t.x)
-    from = steps.from_native (in_trio the) t.x src is.packet.destination is.small
+    from = steps.from_native (in_trio the) (record { x = t.x; src = src; dst = is.packet.destination; little = is.small })
 
     abbrev got : Entry
-    got = steps.got (in_trio the) t.x src is.packet.destination is.small
+    got = steps.got (in_trio the) (record { x = t.x; src = src; dst = is.packet.destination; little = is.small })
 
     abbrev host : Ip6 → Peer
     host z = known (mentions j.entries) (now H) z
 
     -- what waits goes to the relay
-    lets_go : (f : Fate) → replied.Hears s j (now H) t.r.at (fields_in t.x) from f t.x got → turn f ≡ says_nothing
+    lets_go : {f : Fate} → replied.Hears (record { s = s; j = j; n = now H; at = t.r.at; p = fields_in t.x; is = from }) f t.x got → turn f ≡ says_nothing
         → BelievesAt p (with_entry j got) (now H) → ToNext p H q last 3
-    lets_go f g none believes =
-        let gone = all_leaves t.lab H q t.a got (sends (in_trio the) got came.did) (send t.r.at p.packet ∷ [])
+    lets_go g none believes =
+        let gone = all_leaves (sends (in_trio the) got came.did) (send t.r.at p.packet ∷ [])
         (g.sends ∙ ap (λ (z : Ip6). releases t.r.at (host z).waiting) src ∙ ap (releases t.r.at) waits.waiting)
         (relay_elsewhere t is, tt) in
         let more = one_more H q last (udp (embedded own) t.r.at p.packet) long gone.made in
@@ -76,24 +88,24 @@ module _ (the : EnquiryRecord) where
         (at_same_moment (BelievesAt p) H q t.a.n (with_entry j got) came.did.moment came.did.later believes)
         (still_open (in_trio the) next way))
 
-    about : {f : Fate} → replied.Hears s j (now H) t.r.at (fields_in t.x) from f t.x got → got.peer ≡ Some t.h.six
+    about : {f : Fate} → replied.Hears (record { s = s; j = j; n = now H; at = t.r.at; p = fields_in t.x; is = from }) f t.x got → got.peer ≡ Some t.h.six
     about g = g.about ∙ ap (λ (z : Ip6). Some z) src
 
     by_rule : (b : Bool) → is_trusted_at t.r.at (host t.h.six) ≡ b → ToNext p H q last 3
     by_rule true trusted =
-        let g = (replied.hands_it s j (now H) t.r.at (fields_in t.x) from t.x reads (words t.lab t.a.n H) is.packet.no_bubble
+        let g = (replied.hands_it (record { s = s; j = j; n = now H; at = t.r.at; p = fields_in t.x; is = from }) t.x reads (words t.lab t.a.n H) is.packet.no_bubble
         (ap (λ (z : Ip6). is_trusted_at t.r.at (host z)) src ∙ trusted)).hears in
-        let k = knows.after_rule_one got j.entries (now H) t.h.six (about g) g.moment t.r.at g.fate trusted in
-        lets_go fate.Rule1 g refl (record { waiting = k.waiting; trusted = k.trusted })
+        let k = knows.after_rule_one (record { e = got; es = j.entries; n = now H; p = t.h.six; about = about g; moment = g.moment }) t.r.at g.fate trusted in
+        lets_go g refl (record { waiting = k.waiting; trusted = k.trusted })
     by_rule false untrusted =
-        let g = replied.believes_it s j (now H) t.r.at (fields_in t.x) from t.x reads (words t.lab t.a.n H) p.nonce (record {
+        let g = replied.believes_it (record { s = s; j = j; n = now H; at = t.r.at; p = fields_in t.x; is = from }) t.x reads (words t.lab t.a.n H) {nonce = p.nonce} (record {
           listed = ap (λ (z : Ip6). is_listed z (now H) (mentions j.entries)) src ∙ waits.listed;
           tested = ap (λ (z : Ip6). (host z).nonce) src ∙ waits.tested;
           untrusted = ap (λ (z : Ip6). is_trusted_at t.r.at (host z)) src ∙ untrusted;
           stale = ap (λ (z : Ip6). is_fresh (now H) (host z)) src ∙ waits.stale;
         }) says in
-        let k = knows.after_rule_two got j.entries (now H) t.h.six (about g) g.moment t.r.at t.x g.fate g.came in
-        lets_go fate.Rule2 g refl (record { waiting = k.waiting; trusted = k.trusted })
+        let k = knows.after_rule_two (record { e = got; es = j.entries; n = now H; p = t.h.six; about = about g; moment = g.moment }) t.r.at t.x g.fate g.came in
+        lets_go g refl (record { waiting = k.waiting; trusted = k.trusted })
 
     pub reply_at_client : ToNext p H q last 3
     reply_at_client = by_rule (is_trusted_at t.r.at (host t.h.six)) refl

@@ -58,7 +58,7 @@ module _ (p : Enquiry) (H : List Full) (r : Full) (start : IsToStart p H r) wher
 
   waits : WaitsAt p (with_entry j e) (now H)
   waits =
-      let k = knows.after_asking e j.entries (now H) t.h.six about asked.moment asked.fate y p.nonce asked.packet
+      let k = knows.after_asking (record { e = e; es = j.entries; n = now H; p = t.h.six; about = about; moment = asked.moment }) asked.fate asked.packet
       (asked.drew ∙ ap (λ (n : ℕ). Some n) (sym start.nonce)) start.next.nodes.nothing_waits in
       record { listed = k.listed; waiting = k.waiting; tested = k.tested; stale = k.fresh ∙ start.next.nodes.stale }
 
@@ -70,9 +70,9 @@ module _ (p : Enquiry) (H : List Full) (r : Full) (start : IsToStart p H r) wher
       let apart : same_ip6 t.h.six t.r.six ≡ false =
       other_way t.r.six t.h.six (sixes_apart t.lab.topology start.rules t.k t.m t.r t.h start.next.nodes.relay start.next.nodes.host) in
       record {
-        unbarred = ap (is_barred (now H)) (others_known e j.entries (now H) t.h.six about keeps touches t.r.six apart)
+        unbarred = ap (is_barred (now H)) (others_known e j.entries (now H) about keeps touches t.r.six apart)
             ∙ may.client_unbarred;
-        room = others_room e j.entries (now H) t.h.six about keeps touches t.r.six apart may.room
+        room = others_room e j.entries (now H) about keeps touches t.r.six apart may.room
             (λ relay host. may.room_for_both host relay);
       }
 

@@ -41,14 +41,14 @@ module _ (the : EnquiryRecord) where
       (same_address (in_trio the) (other_journal t.lab H q k t.a.n node apart))
 
   -- what the relay will do stays, where neither it nor the client did anything
-  onward_stays : (k : ℕ) → q.node ≡ Some k → (k ≡ t.a.n → ⊥) → (k ≡ t.k → ⊥) → LeavesNats t.lab q → q.moment ≡ now H → (b : Bool) → Onward p H b
+  onward_stays : {k : ℕ} → q.node ≡ Some k → (k ≡ t.a.n → ⊥) → (k ≡ t.k → ⊥) → LeavesNats t.lab q → q.moment ≡ now H → {b : Bool} → Onward p H b
       → Onward p (q ∷ H) b
-  onward_stays k node client relays calm moment _ (asks_first plain asks may) =
+  onward_stays {k} node client relays calm moment (asks_first plain asks may) =
       asks_first plain (stays (RelayAsksAt t) k t.k node relays moment asks) (stays (MayListAt p) k t.a.n node client moment may)
-  onward_stays k node client relays calm moment _ (at_once (to_trusted trusts way) idle) =
+  onward_stays {k} node client relays calm moment (at_once (to_trusted trusts way) idle) =
       at_once (to_trusted (stays (TrustsClientAt t) k t.k node relays moment trusts) (still_open (in_trio the) (next_is (in_trio the) calm moment) way))
       (stays (RelayIdleAt t) k t.k node relays moment idle)
-  onward_stays k node client relays calm moment _ (at_once (to_cone cone room) idle) =
+  onward_stays {k} node client relays calm moment (at_once (to_cone cone room) idle) =
       at_once (to_cone cone (stays (RelayHasRoomAt t) k t.k node relays moment room)) (stays (RelayIdleAt t) k t.k node relays moment idle)
 
   -- what the native answers
@@ -64,7 +64,7 @@ module _ (the : EnquiryRecord) where
       let client = no_server_client (in_trio the) in
       goes_on (suc (suc (suc (suc (extra p.asks))))) (ground_stays t.a.c.server came.node client came.calm came.moment) more.longer
       (crosses more.at (stays (WaitsAt p) t.a.c.server t.a.n came.node client came.moment waits)
-      (onward_stays t.a.c.server came.node client (no_server_relay (in_trio the)) came.calm came.moment p.asks onward))
+      (onward_stays came.node client (no_server_relay (in_trio the)) came.calm came.moment onward))
 
   -- at the native
   pub at_native : (last : ℕ) → Delivery t.lab H q last → length (wire H) ≡ suc last → OnSix H last None (test_of t p.nonce) → Waits p H
@@ -75,14 +75,24 @@ module _ (the : EnquiryRecord) where
       let client = no_native_client (in_trio the) in
       goes_on (suc (suc (suc (extra p.asks)))) (ground_stays t.m came.node client came.calm came.moment) more.longer
       (echoes more.at (stays (WaitsAt p) t.m t.a.n came.node client came.moment waits)
-      (onward_stays t.m came.node client (no_native_relay (in_trio the)) came.calm came.moment p.asks onward))
+      (onward_stays came.node client (no_native_relay (in_trio the)) came.calm came.moment onward))
+
+  -- the test is delivered to the relay, the latest entry
+  pub record TestComes : Type 0 where
+    pub last : ℕ
+    pub d : Delivery t.lab H q last
+    pub long : length (wire H) ≡ suc last
+    pub at : OnSix H last (Some t.k) t.x
+    pub waits : Waits p H
 
   -- the reply, at the relay
-  module _ (last : ℕ) (d : Delivery t.lab H q last) (long : length (wire H) ≡ suc last) (at : OnSix H last (Some t.k) t.x) (waits : Waits p H) where
+  module _ (test_comes : TestComes) where
+    open test_comes use {last, d, long, at, waits}
+
     came : Arrival t.lab H q t.k (relay t.r) (six (Some t.k) t.x)
     came = comes_by_six (in_trio the) last t.x d at
 
-    goes : gives.IsForClient (relay_settings t.lab.topology t.k t.r) (journal t.k H).entries (now H) t.x is.packet.packet
+    goes : gives.IsForClient (record { s = relay_settings t.lab.topology t.k t.r; j = (journal t.k H).entries; n = now H; x = t.x; is_one = is.packet.packet })
     goes = for_client (in_trio the) t.x is.packet.packet is.packet.source is.packet.destination is.small
 
     ground : Ground t (q ∷ H)
@@ -100,16 +110,16 @@ module _ (the : EnquiryRecord) where
 
     pub at_relay : (b : Bool) → Onward p H b → ToNext p H q last (suc (suc (suc (suc (extra b)))))
     at_relay _ (at_once (to_trusted trusts way) idle) =
-        sent_on way (goes_at_once (in_trio the) t.x is.packet.packet is.packet.destination goes came.did trusts)
-        (trusts_on (in_trio the) t.x is.packet.packet is.packet.destination goes came.did trusts)
-        (idle_after_sent (in_trio the) t.x is.packet.packet is.packet.destination goes came.did idle trusts)
+        sent_on way (goes_at_once (in_trio the) (record { x = t.x; one = is.packet.packet; to = is.packet.destination; for_client = goes }) came.did trusts)
+        (trusts_on (in_trio the) (record { x = t.x; one = is.packet.packet; to = is.packet.destination; for_client = goes }) came.did trusts)
+        (idle_after_sent (in_trio the) (record { x = t.x; one = is.packet.packet; to = is.packet.destination; for_client = goes; did = came.did; idle = idle }) trusts)
     at_relay _ (at_once (to_cone cone room) idle) =
-        let g = goes_to_cone (in_trio the) t.x is.packet.packet is.packet.destination goes came.did room.untrusted room.room cone in
+        let g = goes_to_cone (in_trio the) (record { x = t.x; one = is.packet.packet; to = is.packet.destination; for_client = goes }) (record { did = came.did; untrusted = room.untrusted; room = room.room }) cone in
         sent_on (cone_along t.lab H (asks_at t.lab t.a.c) t.r.at (nats_of t.lab t.a.c) t.a.c.inside (embedded own) (is.cone cone) r.ground.way)
         g.0 g.1
-        (idle_after_cone (in_trio the) t.x is.packet.packet is.packet.destination goes came.did idle room.untrusted room.room cone)
+        (idle_after_cone (in_trio the) (record { x = t.x; one = is.packet.packet; to = is.packet.destination; for_client = goes; did = came.did; idle = idle }) room.untrusted room.room cone)
     at_relay _ (asks_first plain asks may) =
-        let g = waits_there (in_trio the) t.x is.packet.packet is.packet.destination goes came.did asks.untrusted asks.room plain asks.unbarred
+        let g = waits_there (in_trio the) (record { x = t.x; one = is.packet.packet; to = is.packet.destination; for_client = goes }) (record { did = came.did; untrusted = asks.untrusted; room = asks.room }) plain asks.unbarred
         asks.nothing_waits refl in
         let more = one_more H q last (udp t.r.at (server_ep (server_in own)) (bubble_bytes t.r.six own)) long g.0 in
         goes_on 5 ground more.longer

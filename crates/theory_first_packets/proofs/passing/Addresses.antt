@@ -44,9 +44,9 @@ is_nat_node (nat a) = true
 is_nat_node _ = false
 
 -- nodes of different kinds are two
-pub two_kinds : (t : TopologyState) (i j : ℕ) (a b : Node) (of : Node → Bool) → node_at t i ≡ Some a → node_at t j ≡ Some b → of a ≡ true → of b ≡ false
+pub two_kinds : (t : TopologyState) {i j : ℕ} {a b : Node} (of : Node → Bool) → node_at t i ≡ Some a → node_at t j ≡ Some b → of a ≡ true → of b ≡ false
     → i ≡ j → ⊥
-two_kinds t i j a b of at to holds fails same =
+two_kinds t {a} {b} of at to holds fails same =
     let one : a ≡ b = ap (λ (o : Option Node). unwrap_or o a) (sym at ∙ ap (node_at t) same ∙ to) in
     false≢true (sym fails ∙ ap of (sym one) ∙ holds)
 

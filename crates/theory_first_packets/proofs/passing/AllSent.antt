@@ -23,7 +23,7 @@ pub record DoesSend (lab : Lab) (H : List Full) (q : Full) (a : Side) (e : Entry
   pub did : Did lab H q a.n (client a.c) e
   pub sound : HasNoFault q
 
-module _ (lab : Lab) (H : List Full) (q : Full) (a : Side) (e : Entry) (is : DoesSend lab H q a e) where
+module _ {lab : Lab} {H : List Full} {q : Full} {a : Side} {e : Entry} (is : DoesSend lab H q a e) where
   -- its sends, as NATs let them out
   held : (nats : List ℕ) (inside : Ep) → WayIn lab H (asks_at lab a.c) nats inside (embedded a.own)
       → HeldAlong lab H (now H) [] nats inside (embedded a.own)
@@ -39,28 +39,28 @@ module _ (lab : Lab) (H : List Full) (q : Full) (a : Side) (e : Entry) (is : Doe
   plain = record { kinds = is.kinds; live = each_so (λ k (on : IsOnWay lab k). on.lives) (nats_of lab a.c) is.end.nats }
 
   -- so what the record adds to the history of a NAT is what this let out
-  history : (passed : List Passing) → q.passed ≡ passed → (k : ℕ) → IsOnWay lab k → nat_history lab k (q ∷ H) ≡ since lab H (now H) passed k
-  history passed same k on =
-      ap (λ (b : Bool). cond b (at_nat lab q.asked q.act) (outs_at k q.passed) ++ nat_history lab k H) (not_of lab a.n (client a.c) is.end.there refl q is.did.node k on)
+  history : {passed : List Passing} → q.passed ≡ passed → {k : ℕ} → IsOnWay lab k → nat_history lab k (q ∷ H) ≡ since lab H (now H) passed k
+  history same {k} on =
+      ap (λ (b : Bool). cond b (at_nat lab q.asked q.act) (outs_at k q.passed) ++ nat_history lab k H) (not_of is.end.there refl q is.did.node on)
       ∙ ap (λ (ps : List Passing). outs_at k ps ++ nat_history lab k H) same
 
   -- what its destination sends back comes in
-  comes_back : (passed : List Passing) → q.passed ≡ passed → (dst : Ep) (nats : List ℕ) (inside : Ep) → AllByRecursion (IsOnWay lab) nats
+  comes_back : {passed : List Passing} → q.passed ≡ passed → (dst : Ep) (nats : List ℕ) (inside : Ep) → AllByRecursion (IsOnWay lab) nats
       → WentOut lab H (now H) passed dst nats inside (embedded a.own) → WayIn lab (q ∷ H) dst nats inside (embedded a.own)
-  comes_back passed same dst [] inside on went = went
-  comes_back passed same dst (k ∷ nats) inside on went =
+  comes_back same dst [] inside on went = went
+  comes_back {passed} same dst (k ∷ nats) inside on went =
       let d = (passing k (now H) inside dst went.0.port).datagram in (
         went.0,
         went.1,
         record {
           datagram = d;
           counts = subst (λ (m : ℕ). Contains (counting (nat_of lab k).idle m (nat_history lab k (q ∷ H))) d) (sym is.did.moment)
-              (subst (λ (h : List NatEntry). Contains (counting (nat_of lab k).idle (now H) h) d) (sym (history passed same k on.0)) went.2);
+              (subst (λ (h : List NatEntry). Contains (counting (nat_of lab k).idle (now H) h) d) (sym (history same on.0)) went.2);
           left = refl;
           by_port = refl;
           asked = asks_it (nat_of lab k).kind dst d refl;
         },
-        comes_back passed same dst nats went.0 on.1 went.3,
+        comes_back same dst nats went.0 on.1 went.3,
       )
 
   -- so all its sends leave
@@ -70,11 +70,11 @@ module _ (lab : Lab) (H : List Full) (q : Full) (a : Side) (e : Entry) (is : Doe
       let made : q.made ≡ (by_way lab H (now H) (nats_of lab a.c) a.c.inside (armed H) 0 [] xs).made = is.did.made
       ∙ ap (λ (z : List Send). (by_way lab H (now H) (nats_of lab a.c) a.c.inside (armed H) 0 [] z).made) are in
       let passed = is.did.passed ∙ ap (λ (z : List Send). (by_way lab H (now H) (nats_of lab a.c) a.c.inside (armed H) 0 [] z).passed) are in
-      let all = all_leave lab H (now H) (record { way = nats_of lab a.c; inside = a.c.inside; out = embedded a.own; plain = plain }) (armed H) 0 [] xs elsewhere
+      let all = all_leave lab H (now H) (record { way = nats_of lab a.c; inside = a.c.inside; out = embedded a.own; plain = plain }) (armed H) 0 {passed = []} xs elsewhere
       (λ k. set_up_past lab H k is.grown) (held (nats_of lab a.c) a.c.inside is.way)
       (subst (λ (ms : List Made). list_any is_fault ms ≡ false) made is.sound) in
       record {
         made = made ∙ all.made;
-        back = each_so (λ x w. comes_back (by_way lab H (now H) (nats_of lab a.c) a.c.inside (armed H) 0 [] xs).passed passed x.to (nats_of lab a.c) a.c.inside
+        back = each_so (λ x w. comes_back passed x.to (nats_of lab a.c) a.c.inside
             is.end.nats w) xs all.each;
       }

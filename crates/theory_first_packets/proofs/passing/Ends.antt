@@ -82,11 +82,11 @@ module _ (lab : Lab) (H : List Full) (n : ℕ) (c : ClientNode) (own : Ip6) (s :
       ((wire_is_made lab H is g).journals n) settled.address
 
   -- its port is one that a NAT gives
-  port_given : (k : ℕ) (way : List ℕ) (inside : Ep) → WayIn lab H (asks_at lab c) (k ∷ way) inside (embedded own) → FIRST_PORT ≤ (embedded own).port
-  port_given k [] inside w = subst (λ (e : Ep). FIRST_PORT ≤ e.port) w.3
+  port_given : (k : ℕ) (way : List ℕ) {inside : Ep} → WayIn lab H (asks_at lab c) (k ∷ way) inside (embedded own) → FIRST_PORT ≤ (embedded own).port
+  port_given k [] w = subst (λ (e : Ep). FIRST_PORT ≤ e.port) w.3
       (live_ports_are_in_range (nat_of lab k) (nat_history lab k H) (now H) (set_up_past lab H k g) w.2.datagram.inside w.2.datagram.dst w.0.port
       (counting_datagram_holds_its_port (nat_of lab k) (nat_history lab k H) (now H) (set_up_past lab H k g) w.2.datagram w.2.counts ∙ ap (λ (p : ℕ). Some p) w.2.by_port)).0
-  port_given k (j ∷ way) inside w = port_given j way w.0 w.3
+  port_given k (j ∷ way) w = port_given j way w.3
 
   -- all of it
   pub is_end : IsEnd lab n c own
@@ -109,6 +109,6 @@ module _ (lab : Lab) (H : List Full) (n : ℕ) (c : ClientNode) (own : Ip6) (s :
         address = own_is;
         made = subst IsEp (sym own_is.of.mapped_is) own_is.made;
         usable = usable_at (embedded own) (subst (λ (ip : Ip4). is_global Strict ip ≡ true) (sym external) nat_keeps.external.global)
-            (high_port (embedded own).port (port_given c.nat (outer_nats_of lab c) c.inside way_of_server));
+            (high_port (embedded own).port (port_given c.nat (outer_nats_of lab c) way_of_server));
         server_global = subst (λ (ip : Ip4). is_global Strict ip ≡ true) (sym (own_is.of.server_is ∙ p.primary)) server_keeps.primary.global;
       }

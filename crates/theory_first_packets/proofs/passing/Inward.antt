@@ -2,7 +2,17 @@
 -- it out.
 use Rattle.theory_first_packets.proofs.Words.{Behind, ClientNode, Ep, Full, Grown, Inward, IsLetIn, IsShutOut, Lab, List, None, Option, Some, [], ap, chain_in, comes, comes_to, counting_datagram_holds_its_port, false≢true, goes_in, inl, inner_at, inr, key_inside, let_in, let_in_where_asked, nat_history, nat_of, nat_pasts, now, option_map, port_has_one_key, refl, set_up_past, shut_at, subst, sym, unwrap_or, ℕ, ◌∙◌, ◌∷◌, ◌≡◌, ◌⊎◌}
 
-module _ (lab : Lab) (H : List Full) (g : Grown lab H) (src other : Ep) where
+-- two endpoints from which datagrams may come in after a history
+pub record Incoming : Type 0 where
+  pub lab : Lab
+  pub H : List Full
+  pub g : Grown lab H
+  pub src : Ep
+  pub other : Ep
+
+module _ (incoming : Incoming) where
+  open incoming use {lab, H, g, src, other}
+
   abbrev In : Ep → ℕ → ℕ → Option Ep
   In from k port = let_in lab.topology (nat_pasts lab H) (now H) k from port
 
@@ -10,8 +20,8 @@ module _ (lab : Lab) (H : List Full) (g : Grown lab H) (src other : Ep) where
   Goes from at_most k o = goes_in lab.topology lab.chain (nat_pasts lab H) (now H) from at_most k o
 
   -- a NAT's port leads to one endpoint
-  one_inside : (k port : ℕ) (u v : Ep) → In src k port ≡ Some u → In other k port ≡ Some v → v ≡ u
-  one_inside k port u v first second =
+  one_inside : (k port : ℕ) {u v : Ep} → In src k port ≡ Some u → In other k port ≡ Some v → v ≡ u
+  one_inside k port {u} {v} first second =
       let s = nat_of lab k in
       let h = nat_history lab k H in
       let past = set_up_past lab H k g in
@@ -33,7 +43,7 @@ module _ (lab : Lab) (H : List Full) (g : Grown lab H) (src other : Ep) where
   one_nat at_most k port {p = None} both on e = inl (k, refl)
   one_nat at_most k port {o = None} {p = Some v} both on e = absurd (false≢true (ap comes e))
   one_nat at_most k port {j} {x} {o = Some u} {p = Some v} both on e =
-      subst (λ (z : Ep). SameOrShut (comes_to j x) (Goes other at_most k (Some z))) (sym (one_inside k port u v both.0 both.1)) (on u e)
+      subst (λ (z : Ep). SameOrShut (comes_to j x) (Goes other at_most k (Some z))) (sym (one_inside k port both.0 both.1)) (on u e)
 
   -- past one more, to where that leads
   onward : (rest : List Behind) (k : ℕ) (u : Ep) {j : ℕ} {x : Ep} → ((i : ℕ) → Goes src rest i (In src i u.port) ≡ comes_to j x

@@ -12,12 +12,12 @@ pub record IsOnWay (lab : Lab) (k : ℕ) : Type 0 where
 
 -- a node of another kind is none of them
 pub no_nat : (lab : Lab) (i : ℕ) (a : Node) → node_at lab.topology i ≡ Some a → is_nat_node a ≡ false → (k : ℕ) → IsOnWay lab k → k ≡ i → ⊥
-no_nat lab i a at kind k on = two_kinds lab.topology k i (nat on.row) a is_nat_node on.at at refl kind
+no_nat lab i a at kind k on = two_kinds lab.topology {i = k} {j = i} is_nat_node on.at at refl kind
 
 -- so a record of it is none of theirs
-pub not_of : (lab : Lab) (i : ℕ) (a : Node) → node_at lab.topology i ≡ Some a → is_nat_node a ≡ false → (q : Full) → q.node ≡ Some i → (k : ℕ)
+pub not_of : {lab : Lab} {i : ℕ} {a : Node} → node_at lab.topology i ≡ Some a → is_nat_node a ≡ false → (q : Full) → q.node ≡ Some i → {k : ℕ}
     → IsOnWay lab k → is_node k q.node ≡ false
-not_of lab i a at kind q node k on = ap (is_node k) node ∙ false_from_ne_true (k == i) (λ h.
+not_of {lab} {i} {a} at kind q node {k} on = ap (is_node k) node ∙ false_from_ne_true (k == i) (λ h.
     no_nat lab i a at kind k on (let same : k ≡ i = grind (arith, nat_tests) in same))
 
 -- where nothing is kept nothing counts

@@ -8,9 +8,9 @@ module _ (lab : Lab) (is : IsTopology lab.topology) (H : List Full) where
   to_server k a src bytes there = each_is_reached lab H (now H) (udp src (server_ep a.primary) bytes) k (server a) is there (inl refl)
 
   -- what is let in to a client
-  pub to_client : (n : ℕ) (c : ClientNode) (src dst : Ep) (bytes : List ℕ) → node_at lab.topology n ≡ Some (client c) → IsLetIn lab H (now H) src dst c
+  pub to_client : (n : ℕ) {c : ClientNode} {src dst : Ep} (bytes : List ℕ) → node_at lab.topology n ≡ Some (client c) → IsLetIn lab H (now H) src dst c
       → route lab H (now H) (udp src dst bytes) ≡ reaches n (client c)
-  to_client n c src dst bytes there enters = each_is_reached lab H (now H) (udp src dst bytes) n (client c) is there enters
+  to_client n {c} {src} {dst} bytes there enters = each_is_reached lab H (now H) (udp src dst bytes) n (client c) is there enters
 
   -- what a NAT shuts out
   pub to_none : (src dst : Ep) (bytes : List ℕ) (k : ℕ) → IsShutOut lab H (now H) src dst k → route lab H (now H) (udp src dst bytes) ≡ closed k

@@ -95,15 +95,15 @@ module _ (lab : Lab) (H : List Full) (m : ℕ) where
     pub lasts : Lasts passed after.passed
     pub went : WentOut after.passed dst way inside out
 
-  pub crosses : (dst : Ep) (way : List ℕ) (inside out : Ep) (passed : List Passing) → ArePlain lab way → IsElsewhere lab dst.ip way → ArePasts passed
+  pub crosses : (dst : Ep) (way : List ℕ) {inside out : Ep} {passed : List Passing} → ArePlain lab way → IsElsewhere lab dst.ip way → ArePasts passed
       → HeldAlong passed way inside out → Crosses dst way inside out passed (crossing lab.topology (nat_pasts lab H) m dst way inside passed)
-  crosses dst [] inside out passed plain elsewhere pasts same =
+  crosses dst [] plain elsewhere pasts same =
       record { leaves = ap (λ (e : Ep). Ok e) same; pasts = pasts; lasts = λ k d c. c; went = same }
-  crosses dst (k ∷ way) inside out passed plain elsewhere pasts held =
+  crosses dst (k ∷ way) {inside} {out} {passed} plain elsewhere pasts held =
       let at = held.0 in
       let s = nat_of lab k in
       let kinds = or_parts (is_symmetric s.kind) (list_any (λ (j : ℕ). is_symmetric (nat_of lab j).kind) way) plain.kinds in
-      let answer : nat_answer s (since passed k) m inside dst ≡ Ok at.port = answers s (since passed k) m inside at.port (record {
+      let answer : nat_answer s (since passed k) m inside dst ≡ Ok at.port = answers {s = s} {h = (since passed k)} {n = m} {inside = inside} {port = at.port} (record {
         past = pasts k;
         datagram = held.2.datagram;
         counts = held.2.counts;
@@ -112,7 +112,7 @@ module _ (lab : Lab) (H : List Full) (m : ℕ) where
       }) dst kinds.0 elsewhere.0 in
       let ps : List Passing = passing k m inside dst at.port ∷ passed in
       let lasts = one_lasts k inside dst at.port passed in
-      let on = crosses dst way at out ps (record { kinds = kinds.1; live = plain.live.1 }) elsewhere.1
+      let on = crosses dst way {passed = ps} (record { kinds = kinds.1; live = plain.live.1 }) elsewhere.1
       (λ j. nat_past.one_more lab H m j k inside dst at.port passed answer (pasts j)) (held_on passed ps lasts way at out held.3) in
       let goes : crossing lab.topology (nat_pasts lab H) m dst (k ∷ way) inside passed ≡ crossing lab.topology (nat_pasts lab H) m dst way at ps =
       ap (answered lab.topology m k inside dst passed (crossing lab.topology (nat_pasts lab H) m dst way)) answer
@@ -142,12 +142,12 @@ module _ (lab : Lab) (H : List Full) (m : ℕ) where
   module _ (along : PlainWay) where
     open along use {way, inside, out, plain}
 
-    pub all_leave : (fails : Option ℕ) (i : ℕ) (passed : List Passing) (xs : List Send) → AllByRecursion (λ (x : Send). IsElsewhere lab x.to.ip way) xs
+    pub all_leave : (fails : Option ℕ) (i : ℕ) {passed : List Passing} (xs : List Send) → AllByRecursion (λ (x : Send). IsElsewhere lab x.to.ip way) xs
         → ArePasts passed → HeldAlong passed way inside out → list_any is_fault (by_way lab H m way inside fails i passed xs).made ≡ false
         → AllLeave way inside out passed xs (by_way lab H m way inside fails i passed xs)
-    all_leave fails i passed [] elsewhere pasts held sound = record { made = refl; lasts = λ k d c. c; each = tt }
-    all_leave fails i passed (x ∷ xs) elsewhere pasts held sound = by (is_at_place i fails) sound
-        (λ ps lasts later e. all_leave fails (i + 1) ps xs elsewhere.1 later (held_on passed ps lasts way inside out held) e) where
+    all_leave fails i [] elsewhere pasts held sound = record { made = refl; lasts = λ k d c. c; each = tt }
+    all_leave fails i {passed} (x ∷ xs) elsewhere pasts held sound = by (is_at_place i fails) sound
+        (λ ps lasts later e. all_leave fails (i + 1) xs elsewhere.1 later (held_on passed ps lasts way inside out held) e) where
           after_one : (fails_now : Bool) → Crossing → Sendings
           after_one b c = record {
             made = marked x (or_loss b c.leaves) ∷ (by_way lab H m way inside fails (i + 1) c.passed xs).made;
@@ -161,7 +161,7 @@ module _ (lab : Lab) (H : List Full) (m : ℕ) where
           by true bad ih = absurd (false≢true (sym bad))
           by false good ih =
               let c : Crossing = crossing lab.topology (nat_pasts lab H) m x.to way inside passed in
-              let it = crosses x.to way inside out passed plain elsewhere.0 pasts held in
+              let it = crosses x.to way plain elsewhere.0 pasts held in
               let leaves : marked x (or_loss false c.leaves) ≡ sent (udp out x.to x.bytes) =
               ap (λ (r : Result Ep NatRefusal). marked x (or_loss false r)) it.leaves in
               let rest = ih c.passed it.lasts it.pasts (or_parts (is_fault (marked x (or_loss false c.leaves)))

@@ -77,8 +77,8 @@ module _ (lab : Lab) (H : List Full) (r : Full) (next : IsCalmNext lab H r) wher
         by false = outs_count k (idle k) (now H) (nat_history lab k H) d r.passed held
 
   -- so a way in stays
-  pub still_way : (k : ℕ) (src : Ep) (port : ℕ) (inside : Ep) → Way lab H k src port inside → Way lab (r ∷ H) k src port inside
-  still_way k src port inside way = record {
+  pub still_way : (k : ℕ) {src : Ep} {port : ℕ} {inside : Ep} → Way lab H k src port inside → Way lab (r ∷ H) k src port inside
+  still_way k way = record {
     datagram = way.datagram;
     counts = still_counts k way.datagram way.counts;
     left = way.left;
@@ -104,7 +104,7 @@ pub record Holds (s : NatSettings) (h : List NatEntry) (n : ℕ) (inside : Ep) (
   pub left : datagram.inside ≡ inside
   pub by_port : datagram.port ≡ port
 
-module _ (s : NatSettings) (h : List NatEntry) (n : ℕ) (inside : Ep) (port : ℕ) (holds : Holds s h n inside port) where
+module _ {s : NatSettings} {h : List NatEntry} {n : ℕ} {inside : Ep} {port : ℕ} (holds : Holds s h n inside port) where
   -- it goes on from that port
   pub held_port : (dst : Ep) → is_symmetric s.kind ≡ false → live_port s.kind inside dst (live_after s h n) ≡ Some port
   held_port dst kind =

@@ -9,11 +9,11 @@ WayIn lab H src [] inside dst = inside ≡ dst
 WayIn lab H src (k ∷ way) inside dst = (at : Ep) × (at.ip ≡ (nat_of lab k).external) × Way lab H k src at.port inside × WayIn lab H src way at dst
 
 -- it stays, too
-pub still_in : (lab : Lab) (H : List Full) (r : Full) → IsCalmNext lab H r → (src : Ep) (way : List ℕ) (inside dst : Ep)
+pub still_in : {lab : Lab} (H : List Full) {r : Full} → IsCalmNext lab H r → (src : Ep) (way : List ℕ) (inside dst : Ep)
     → WayIn lab H src way inside dst → WayIn lab (r ∷ H) src way inside dst
-still_in lab H r next src [] inside dst same = same
-still_in lab H r next src (k ∷ way) inside dst w =
-    (w.0, w.1, still_way lab H r next k src w.0.port inside w.2, still_in lab H r next src way w.0 dst w.3)
+still_in H next src [] inside dst same = same
+still_in {lab} H {r} next src (k ∷ way) inside dst w =
+    (w.0, w.1, still_way lab H r next k w.2, still_in H next src way w.0 dst w.3)
 
 -- what comes in past NATs was asked for at each
 pub asked_along : (lab : Lab) (H : List Full) → Grown lab H → (src : Ep) (way : List ℕ) (inside dst : Ep)

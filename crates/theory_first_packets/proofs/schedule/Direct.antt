@@ -60,10 +60,18 @@ module _ (the : PairRecord) where
       let x = bubble_bytes a.own b.own in
       let e : Entry = entry_of lab H (now H) b.n (embedded b.own) (arrived (embedded a.own) x) (client b.c) in
       let bubble = bubble_reads_back a.own b.own is.sender.address.of.sixteen is.receiver.address.of.sixteen in
-      let heard = hears_bubble (setup p.lab b) (journal b.n H) (now H) (bubble_of a.own b.own) is.receiver_meets trusted (receiver_knows the)
-      (bubble_small a.own b.own) x bubble.payload bubble.bubble (words lab b.n H) in
+      let heard = hears_bubble (record {
+        s = setup p.lab b;
+        j = journal b.n H;
+        n = now H;
+        p = bubble_of a.own b.own;
+        meets = is.receiver_meets;
+        trusted = trusted;
+        knows = receiver_knows the;
+        small = bubble_small a.own b.own;
+      }) bubble.payload bubble.bubble (words lab b.n H) in
       let next = next_is the came.calm came.did.moment in
-      let left = after_bubble (setup p.lab b) (journal b.n H) (now H) a.own e heard.about heard.moment x heard.came trusted ground.keeps_nothing.trust
+      let left = after_bubble (record { s = setup p.lab b; j = journal b.n H; n = now H; peer = a.own; e = e; about = heard.about; moment = heard.moment }) x heard.came trusted ground.keeps_nothing.trust
       heard.hears in
       let ja = other_journal lab H q b.n a.n came.did.node (λ other. two_nodes the (sym other)) in
       record {
@@ -76,7 +84,7 @@ module _ (the : PairRecord) where
         next = next;
         sender_stays = ja;
         may_try = λ _. at_same_moment (λ z m. Unbarred z m a.own) H q b.n (with_entry (journal b.n H) e) next.moment came.did.later
-            (unbarred_then (setup p.lab b) (journal b.n H) (now H) a.own e heard.about heard.moment trusted heard.hears);
+            (unbarred_then (record { s = setup p.lab b; j = journal b.n H; n = now H; peer = a.own; e = e; about = heard.about; moment = heard.moment }) trusted heard.hears);
       }
 
   abbrev x : List ℕ
@@ -95,7 +103,7 @@ module _ (the : PairRecord) where
     -- so there is no way in
     no_way : Forth p H → ⊥
     no_way forth =
-        let reached = to_client p.lab is.rules H b.n b.c (embedded a.own) (embedded b.own) x is.receiver.there
+        let reached = to_client p.lab is.rules H b.n x is.receiver.there
         (to_receiver the (embedded a.own) forth) in
         false≢true (ap is_reached (sym (closes direct at) ∙ reached))
 
@@ -116,9 +124,9 @@ module _ (the : PairRecord) where
 
   -- in either case
   pub at_once : (k : ℕ) → Delivery lab H q k → At H k (embedded a.own) (embedded b.own) (bubble_bytes a.own b.own) → Passes
-  at_once k d at = by (comes_or_not lab H ground.grown (asks_at lab b.c) (embedded a.own) (embedded b.own) b.c
+  at_once k d at = by (comes_or_not (record { lab = lab; H = H; g = ground.grown; src = asks_at lab b.c; other = embedded a.own }) (embedded b.own) b.c
       (to_receiver the (asks_at lab b.c) ground.receiver_way)) where
-        by : Comes lab H ground.grown (asks_at lab b.c) (embedded a.own) (embedded b.own) b.c → Passes
+        by : Comes (record { lab = lab; H = H; g = ground.grown; src = asks_at lab b.c; other = embedded a.own }) (embedded b.own) b.c → Passes
         by (shut_there i out) = shut k at i out d
         by (let_in_too enters) =
             heard_directly (arrival lab H q k d (record {
@@ -126,7 +134,7 @@ module _ (the : PairRecord) where
               node = client b.c;
               item = direct;
               at = at;
-              goes = to_client p.lab is.rules H b.n b.c (embedded a.own) (embedded b.own) x is.receiver.there enters;
+              goes = to_client p.lab is.rules H b.n x is.receiver.there enters;
             }))
 
   -- the stage stays

@@ -58,14 +58,14 @@ module _ (p : Pair) (H : List Full) (r : Full) (start : IsStart p H r) (P : List
 
   gone : (xs : List Send) → done.step.sends ≡ xs → AllByRecursion (λ (x : Send). IsElsewhere p.lab x.to.ip (nats_of p.lab p.a.c)) xs
       → AllSent p.lab H r p.a.c own xs
-  gone xs sends apart = all_leaves p.lab H r p.a done (sender_sends (record { p = p; H = H; q = r; r = is_record p H r start }) done does) xs sends apart
+  gone xs sends apart = all_leaves (sender_sends (record { p = p; H = H; q = r; r = is_record p H r start }) done does) xs sends apart
 
   -- the receiver's endpoint and its server are elsewhere
   other_far : IsElsewhere p.lab (embedded other).ip (nats_of p.lab p.a.c)
-  other_far = elsewhere p.lab is.rules p.a p.b is.sender is.receiver is.apart
+  other_far = elsewhere (record { lab = p.lab; is = is.rules; a = p.a; b = p.b; an = is.sender; bn = is.receiver }) is.apart
 
   server_far : IsElsewhere p.lab (server_in other) (nats_of p.lab p.a.c)
-  server_far = server_elsewhere p.lab is.rules p.b p.a is.receiver is.sender
+  server_far = server_elsewhere (record { lab = p.lab; is = is.rules; a = p.b; b = p.a; an = is.receiver; bn = is.sender })
 
   -- THE RECEIVER IS CONE
 
@@ -83,7 +83,7 @@ module _ (p : Pair) (H : List Full) (r : Full) (start : IsStart p H r) (P : List
         k = 1;
         ground = then;
         long = one.longer;
-        are = open_from p H r start (length (wire H)) (length (wire H)) false (number p H r start) (one_open (length (wire H)));
+        are = open_from p H r start (number p H r start) (one_open (length (wire H)));
         stage = releases_it one.at (cone_along p.lab (r ∷ H) (asks_at p.lab p.b.c) (embedded own) (nats_of p.lab p.b.c) p.b.c.inside (embedded other)
             (is.receiver_cone cone) then.receiver_way);
         bubble = λ none. absurd (false≢true none);
@@ -101,8 +101,8 @@ module _ (p : Pair) (H : List Full) (r : Full) (start : IsStart p H r) (P : List
     sends_are : (cone : Bool) → has_cone own ≡ cone → done.step.sends ≡ both_bubbles cone own other
     sends_are cone same = first.sends ∙ ap (λ (c : Bool). both_bubbles c own other) same
 
-    left : Afterwards (setup p.lab p.a) (journal p.a.n H) (now H) other done first.about first.moment (p.x ∷ []) sender_trusts
-    left = after_queued (setup p.lab p.a) (journal p.a.n H) (now H) other done first.about first.moment p.x first.queued first.packet
+    left : Afterwards (record { s = setup p.lab p.a; j = journal p.a.n H; n = now H; peer = other; e = done; about = first.about; moment = first.moment }) (p.x ∷ []) sender_trusts
+    left = after_queued (record { s = setup p.lab p.a; j = journal p.a.n H; n = now H; peer = other; e = done; about = first.about; moment = first.moment }) first.queued first.packet
         (start.first.clients.sender_ready far).nothing_waits
 
     then : Ground p (r ∷ H) receiver_trusts
@@ -131,7 +131,7 @@ module _ (p : Pair) (H : List Full) (r : Full) (start : IsStart p H r) (P : List
           k = 4;
           ground = then;
           long = one.longer;
-          are = open_from p H r start (length (wire H)) (length (wire H)) false (number p H r start) (one_open (length (wire H)));
+          are = open_from p H r start (number p H r start) (one_open (length (wire H)));
           stage = asks one.at sends may (cone_along p.lab (r ∷ H) (asks_at p.lab p.a.c) (embedded other) (nats_of p.lab p.a.c) p.a.c.inside (embedded own)
               (is.sender_cone cone) then.sender_way);
           bubble = λ none. absurd (false≢true none);
@@ -153,7 +153,7 @@ module _ (p : Pair) (H : List Full) (r : Full) (start : IsStart p H r) (P : List
           k = 4;
           ground = then;
           long = ap (λ (xs : List Item). length (wire H ++ xs)) items ∙ two_longer (wire H) direct indirect;
-          are = open_from p H r start (length (wire H)) (suc (length (wire H))) true (number p H r start) (two_open (length (wire H)));
+          are = open_from p H r start (number p H r start) (two_open (length (wire H)));
           stage = asks (ap (λ (xs : List Item). slice_get (wire H ++ xs) (suc (length (wire H)))) items ∙ second_of_two (wire H) direct indirect) sends may
               all.back.0;
           bubble = λ _. ap (λ (xs : List Item). slice_get (wire H ++ xs) r.first) items

@@ -68,8 +68,8 @@ module _ (p : Pair) (H : List Full) (r : Full) (start : IsStart p H r) where
       (at_same_moment (λ j m. Keeps j m p.a.own [] forth) H r p.b.n (journal p.b.n H) next.moment receiver_stays ground.keeps_nothing)
 
   -- what is open is so from the first entry on
-  pub open_from : (f last : ℕ) (direct : Bool) → r.first ≡ f → AreOpen f last direct true [] → AreOpen r.first last direct true []
-  open_from f last direct same are = subst (λ (k : ℕ). AreOpen k last direct true []) (sym same) are
+  pub open_from : {f last : ℕ} {direct : Bool} → r.first ≡ f → AreOpen f last direct true [] → AreOpen r.first last direct true []
+  open_from {last} {direct} same are = subst (λ (k : ℕ). AreOpen k last direct true []) (sym same) are
 
   -- WHAT THE SENDER MAKES OF IT
 
@@ -101,8 +101,17 @@ module _ (p : Pair) (H : List Full) (r : Full) (start : IsStart p H r) where
 
   pub at_once : has_cone p.b.own ≡ true → SendsItself
   at_once cone =
-      let goes = goes_at_once (setup p.lab p.a) (journal p.a.n H) (now H) p.x start.first.handed.packet.packet its_meets its_here (small p H r start)
-      start.first.handed.packet.no_bubble stale (ap has_cone start.first.handed.packet.destination ∙ cone) (words p.lab p.a.n H) in
+      let goes = goes_at_once (record {
+        s = setup p.lab p.a;
+        j = journal p.a.n H;
+        n = now H;
+        x = p.x;
+        is_one = start.first.handed.packet.packet;
+        meets = its_meets;
+        here = its_here;
+        small = small p H r start;
+        plain = start.first.handed.packet.no_bubble;
+      }) stale (ap has_cone start.first.handed.packet.destination ∙ cone) (words p.lab p.a.n H) in
       record { fate_is = goes.sent_cone; sends = goes.sends ∙ ap (λ (z : Ip6). send (embedded z) p.x ∷ []) start.first.handed.packet.destination }
 
   -- where it isn't the packet waits, and bubbles go out
@@ -117,8 +126,17 @@ module _ (p : Pair) (H : List Full) (r : Full) (start : IsStart p H r) where
   waits far =
       let dst = start.first.handed.packet.destination in
       let ready = start.first.clients.sender_ready far in
-      let w = waits_here (setup p.lab p.a) (journal p.a.n H) (now H) p.x start.first.handed.packet.packet its_meets its_here (small p H r start)
-      start.first.handed.packet.no_bubble stale (ap has_cone dst ∙ far) (ap (has_room (mentions (journal p.a.n H).entries) (now H)) dst ∙ ready.room)
+      let w = waits_here (record {
+        s = setup p.lab p.a;
+        j = journal p.a.n H;
+        n = now H;
+        x = p.x;
+        is_one = start.first.handed.packet.packet;
+        meets = its_meets;
+        here = its_here;
+        small = small p H r start;
+        plain = start.first.handed.packet.no_bubble;
+      }) stale (ap has_cone dst ∙ far) (ap (has_room (mentions (journal p.a.n H).entries) (now H)) dst ∙ ready.room)
       (ap (λ (k : Peer). k.waiting) known_is ∙ ready.nothing_waits, ap (is_barred (now H)) known_is ∙ start.first.clients.sender_unbarred far)
       (words p.lab p.a.n H) in
       record {

@@ -42,7 +42,7 @@ ground_on p H q next trusted then ground addresses keeps = record {
   grown = (next.follows, ground.grown);
   sender = addresses.0 ∙ ground.sender;
   receiver = addresses.1 ∙ ground.receiver;
-  sender_way = still_in p.lab H q next (asks_at p.lab p.a.c) (nats_of p.lab p.a.c) p.a.c.inside (embedded p.a.own) ground.sender_way;
-  receiver_way = still_in p.lab H q next (asks_at p.lab p.b.c) (nats_of p.lab p.b.c) p.b.c.inside (embedded p.b.own) ground.receiver_way;
+  sender_way = still_in H next (asks_at p.lab p.a.c) (nats_of p.lab p.a.c) p.a.c.inside (embedded p.a.own) ground.sender_way;
+  receiver_way = still_in H next (asks_at p.lab p.b.c) (nats_of p.lab p.b.c) p.b.c.inside (embedded p.b.own) ground.receiver_way;
   keeps_nothing = keeps;
 }

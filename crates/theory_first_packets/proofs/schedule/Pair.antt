@@ -22,8 +22,8 @@ meets lab is a b an bn differ = record {
   global = bn.address.of.global;
   usable = bn.usable;
   server_global = bn.server_global;
-  other = others lab is a b an bn differ;
-  no_server = no_server lab is a b an bn;
+  other = others (record { lab = lab; is = is; a = a; b = b; an = an; bn = bn }) differ;
+  no_server = no_server (record { lab = lab; is = is; a = a; b = b; an = an; bn = bn });
 }
 
 -- what holds of them throughout
@@ -51,8 +51,8 @@ may_tell p is = record {
   rules = is.rules;
   sixteen = is.sender.address.of.sixteen;
   usable = is.sender.usable;
-  no_primary = no_server_address p.lab is.rules p.b p.a is.receiver is.sender;
-  no_secondary = no_server_second p.lab is.rules p.b p.a is.receiver is.sender;
+  no_primary = no_server_address (record { lab = p.lab; is = is.rules; a = p.b; b = p.a; an = is.receiver; bn = is.sender });
+  no_secondary = no_server_second (record { lab = p.lab; is = is.rules; a = p.b; b = p.a; an = is.receiver; bn = is.sender });
   unforged = and_right (is_teredo p.a.own) (not (same_ep (embedded p.a.own) (embedded p.a.own)))
       (not_from_true (same_ep (embedded p.a.own) (embedded p.a.own)) (same_ep-self (embedded p.a.own)));
 }

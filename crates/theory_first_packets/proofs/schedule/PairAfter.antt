@@ -90,7 +90,7 @@ module _ (the : PairRecord) where
 
   -- ways in stay
   pub on_way : (s : Side) (src : Ep) → IsCalmNext lab H q → ComesIn lab H src s → ComesIn lab (q ∷ H) src s
-  on_way s src next way = still_in lab H q next src (nats_of lab s.c) s.c.inside (embedded s.own) way
+  on_way s src next way = still_in H next src (nats_of lab s.c) s.c.inside (embedded s.own) way
 
   -- what comes in by one is let in
   let_in : (s : Side) (src : Ep) → client_at lab.topology s.n ≡ Some s.c → ComesIn lab H src s → IsLetIn lab H (now H) src (embedded s.own) s.c

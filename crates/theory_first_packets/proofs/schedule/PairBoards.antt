@@ -45,8 +45,18 @@ module _ (the : PairRun) (P : List Fate → Type 0) where
     pub sum : length later + (bit direct + k) ≡ total
     pub ahead : Ahead P back later direct trusted k
 
-  module _ (is : IsPair p) (later : List Full) (board : Board later) (q : Full) (fresh : DeliversFresh r later q)
-      (follows : Follows p.lab (after later) q) where
+  -- one more delivery of a fresh schedule, from a board
+  pub record PairTurn : Type 0 where
+    pub is : IsPair p
+    pub later : List Full
+    pub board : Board later
+    pub q : Full
+    pub fresh : DeliversFresh r later q
+    pub follows : Follows p.lab (after later) q
+
+  module _ (pair_turn : PairTurn) where
+    open pair_turn use {is, later, board, q, fresh, follows}
+
     abbrev H : List Full
     H = after later
 
@@ -85,13 +95,13 @@ module _ (the : PairRun) (P : List Fate → Type 0) where
           spent _ (let_in_there same) ahead = ahead_of_bubble P back q later board.trusted board.k same ahead
 
     -- the latest entry
-    advance : (k : ℕ) → is_open k ≡ true → Stage p H back board.last later k → Delivery p.lab H q board.last
+    advance : {k : ℕ} → is_open k ≡ true → Stage p H back board.last later k → Delivery p.lab H q board.last
         → Next p H q back board.trusted board.last later k
-    advance _ opened (asks at sends may inward) d = at_server latest back board.last later d board.long at sends may inward
-    advance _ opened (tells at sends may inward) d = at_receiver latest back board.last later d board.long at sends may inward
-    advance _ opened (answers at sends inward forth) d = at_sender latest back board.last later d board.long at sends inward forth
-    advance _ opened (releases_it at forth) d = at_end latest back board.last later d board.long at forth
-    advance _ opened (has_come come forth) d = absurd (false≢true opened)
+    advance opened (asks at sends may inward) d = at_server latest back later d board.long at sends may inward
+    advance opened (tells at sends may inward) d = at_receiver latest back later d board.long at sends may inward
+    advance opened (answers at sends inward forth) d = at_sender latest back later d board.long at sends inward forth
+    advance opened (releases_it at forth) d = at_end latest back board.last later d board.long at forth
+    advance opened (has_come come forth) d = absurd (false≢true opened)
 
     moves : {k : ℕ} → AreOpen r.first board.last board.direct (is_open k) later → length later + (bit board.direct + k) ≡ total
         → Ahead P back later board.direct board.trusted k → q.delivered ≡ Some board.last → Next p H q back board.trusted board.last later k → Board (q ∷ later)
@@ -128,12 +138,12 @@ module _ (the : PairRun) (P : List Fate → Type 0) where
           by : ((board.direct ≡ true) × (fresh.number ≡ r.first)) ⊎ ((is_open board.k ≡ true) × (fresh.number ≡ board.last)) → Board (q ∷ later)
           by (inl e) = spends e.0 e.1
           by (inr e) = moves board.are board.sum board.ahead (fresh.delivered ∙ ap (λ (n : ℕ). Some n) e.1)
-              (advance board.k e.0 board.stage (subst (Delivery p.lab H q) e.1 came))
+              (advance e.0 board.stage (subst (Delivery p.lab H q) e.1 came))
 
   -- so is the whole schedule
   pub boards : IsPair p → (later : List Full) → Grown p.lab (after later) → AreFresh r later → Board [] → Board later
   boards is [] g fresh board = board
-  boards is (q ∷ later) g fresh board = next_board is later (boards is later g.1 fresh.1 board) q fresh.0 g.0
+  boards is (q ∷ later) g fresh board = next_board (record { is = is; later = later; board = boards is later g.1 fresh.1 board; q = q; fresh = fresh.0; follows = g.0 })
 
   -- so there are no more deliveries than that
   pub few : (later : List Full) → Board later → length later ≤ total

@@ -8,8 +8,19 @@ use Rattle.theory_first_packets.proofs.Premise.{IsStart, is_pair}
 use Rattle.theory_first_packets.proofs.schedule.FirstGround.{back, forth}
 use Rattle.theory_first_packets.proofs.schedule.FirstBoards.{to_cone, from_cone, with_both}
 
-module _ (p : Pair) (H : List Full) (r : Full) (start : IsStart p H r) (later : List Full) (g : Grown p.lab (later ++ r ∷ H))
-    (fresh : AreFresh r later) where
+-- a fresh schedule after the first packet
+pub record FreshRun : Type 0 where
+  pub p : Pair
+  pub H : List Full
+  pub r : Full
+  pub start : IsStart p H r
+  pub later : List Full
+  pub g : Grown p.lab (later ++ r ∷ H)
+  pub fresh : AreFresh r later
+
+module _ (fresh_run : FreshRun) where
+  open fresh_run use {p, H, r, start, later, g, fresh}
+
   -- whether each trusts the other
   abbrev pub sender_trusts : Bool
   sender_trusts = back p H r start
@@ -71,8 +82,8 @@ module _ (p : Pair) (H : List Full) (r : Full) (start : IsStart p H r) (later : 
         }
 
   -- it is carried, whatever the course
-  pub carried_so : (near far : Bool) → has_cone p.a.own ≡ near → has_cone p.b.own ≡ far → GetsThrough H r p.b.n p.a.own p.b.own p.x later
-  carried_so near far n f = (ended (λ (fs : List Fate). Unit {0}) far f near n (any near far)).carried where
+  pub carried_so : {near far : Bool} → has_cone p.a.own ≡ near → has_cone p.b.own ≡ far → GetsThrough H r p.b.n p.a.own p.b.own p.x later
+  carried_so {near} {far} n f = (ended (λ (fs : List Fate). Unit {0}) far f near n (any near far)).carried where
     any : (n f : Bool) → AtFirst (λ (fs : List Fate). Unit {0}) sender_trusts receiver_trusts n f
     any n true = tt
     any true false = tt
@@ -93,4 +104,4 @@ each_next lab H r later is chained g n m a b own other x next fresh =
       first = next;
       sound = sound_first r later fresh;
     } in
-    carried_so p H r start later g fresh (has_cone own) (has_cone other) refl refl
+    carried_so (record { p = p; H = H; r = r; start = start; later = later; g = g; fresh = fresh }) {near = (has_cone own)} {far = (has_cone other)} refl refl

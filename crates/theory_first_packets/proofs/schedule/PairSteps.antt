@@ -41,10 +41,10 @@ module _ (the : PairRecord) (back : Bool) where
   ground = r.ground
 
   -- to the server
-  pub at_server : (last : ℕ) (later : List Full) → Delivery lab H q last → length (wire H) ≡ suc last
+  pub at_server : {last : ℕ} (later : List Full) → Delivery lab H q last → length (wire H) ≡ suc last
       → At H last (embedded a.own) (server_ep (server_in b.own)) (bubble_bytes a.own b.own) → Sends p H back → MayTry p H → Back p H
       → Next p H q back trusted last later 4
-  at_server last later d long at sends may inward =
+  at_server {last} later d long at sends may inward =
       let row = is.receiver.server_row in
       let may_tell = may_tell p is in
       let dst : server_ep (server_in b.own) ≡ server_ep row.primary = ap server_ep (is.receiver.address.of.server_is ∙ is.receiver.primary) in
@@ -58,11 +58,11 @@ module _ (the : PairRecord) (back : Bool) where
         goes = to_server p.lab is.rules H b.c.server row (embedded a.own) (bubble_bytes a.own b.own) is.receiver.server_is;
       }) in
       let more = one_more H q last (udp (server_ep row.primary) (embedded b.own) (forwarded (Some (embedded a.own)) (bubble_bytes a.own b.own))) long
-      (server_tells.passes_on lab b is.receiver a.own (embedded a.own) may_tell H q (server_ep row.primary) came.did r.sound) in
+      (server_tells.passes_on (record { lab = lab; a = b; end = is.receiver; peer = a.own; from = embedded a.own; may = may_tell }) H q (server_ep row.primary) came.did r.sound) in
       let next = next_is the came.calm came.did.moment in
       let ja = other_journal lab H q b.c.server a.n came.did.node (no_server_node the a is.sender.there) in
       let jb = other_journal lab H q b.c.server b.n came.did.node (no_server_node the b is.receiver.there) in
-      goes_on 2 (server_tells.passes_by lab b is.receiver a.own (embedded a.own) may_tell H q (server_ep row.primary) came.did)
+      goes_on 2 (server_tells.passes_by (record { lab = lab; a = b; end = is.receiver; peer = a.own; from = embedded a.own; may = may_tell }) H q (server_ep row.primary) came.did)
       (ground_on p H q next trusted trusted ground (same_address the a ja, same_address the b jb)
       (keeps_waiting the (journal b.n H) trusted next.moment jb ground.keeps_nothing)) more.longer
       (tells (more.at ∙ ap (λ (ip : Ip4). Some (udp (server_ep ip) (embedded b.own) (forwarded (Some (embedded a.own)) (bubble_bytes a.own b.own))))
@@ -71,31 +71,31 @@ module _ (the : PairRecord) (back : Bool) where
       (on_way the a (embedded b.own) next inward))
 
   -- from there to the receiver
-  pub at_receiver : (last : ℕ) (later : List Full) → Delivery lab H q last → length (wire H) ≡ suc last
+  pub at_receiver : {last : ℕ} (later : List Full) → Delivery lab H q last → length (wire H) ≡ suc last
       → At H last (asks_at lab b.c) (embedded b.own) (forwarded (Some (embedded a.own)) (bubble_bytes a.own b.own)) → Sends p H back → MayTry p H → Back p H
       → Next p H q back trusted last later 3
-  at_receiver last later d long at sends may inward =
+  at_receiver {last} later d long at sends may inward =
       let x = forwarded (Some (embedded a.own)) (bubble_bytes a.own b.own) in
       let came : Arrival lab H q b.n (client b.c) (udp (asks_at lab b.c) (embedded b.own) x) = arrival lab H q last d (record {
         number = b.n;
         node = client b.c;
         item = udp (asks_at lab b.c) (embedded b.own) x;
         at = at;
-        goes = to_client p.lab is.rules H b.n b.c (asks_at lab b.c) (embedded b.own) x is.receiver.there
+        goes = to_client p.lab is.rules H b.n x is.receiver.there
             (to_receiver the (asks_at lab b.c) ground.receiver_way);
       }) in
       let e : Entry = entry_of lab H (now H) b.n (embedded b.own) (arrived (asks_at lab b.c) x) (client b.c) in
       let bubble = bubble_reads_back a.own b.own is.sender.address.of.sixteen is.receiver.address.of.sixteen in
       let told = forwarded_reads_back (bubble_bytes a.own b.own) _ (Some (embedded a.own)) bubble.bytes bubble.payload.read
       (bubble_small a.own b.own) is.sender.made in
-      let answer = answers_it (setup p.lab b) (journal b.n H) (now H) b.own a.own (embedded a.own) (may_answer the may) x told bubble.bubble
+      let answer = answers_it (setup p.lab b) (journal b.n H) (now H) b.own a.own (embedded a.own) (may_answer the may) told bubble.bubble
       (words lab b.n H) in
       let next = next_is the came.calm came.did.moment in
-      let gone = all_leaves lab H q b e (receiver_sends the e came.did) (send (embedded a.own) (bubble_bytes b.own a.own) ∷ [])
+      let gone = all_leaves (receiver_sends the e came.did) (send (embedded a.own) (bubble_bytes b.own a.own) ∷ [])
       answer.sends
-      (elsewhere p.lab is.rules b a is.receiver is.sender (λ same. is.apart (sym same)), tt) in
+      (elsewhere (record { lab = p.lab; is = is.rules; a = b; b = a; an = is.receiver; bn = is.sender }) (λ same. is.apart (sym same)), tt) in
       let more = one_more H q last (udp (embedded b.own) (embedded a.own) (bubble_bytes b.own a.own)) long gone.made in
-      let left = after_indirect (setup p.lab b) (journal b.n H) (now H) a.own e answer.about answer.moment trusted ground.keeps_nothing.trust
+      let left = after_indirect (record { s = setup p.lab b; j = journal b.n H; n = now H; peer = a.own; e = e; about = answer.about; moment = answer.moment }) ground.keeps_nothing.trust
       answer.indirect ground.keeps_nothing.waits in
       let ja = other_journal lab H q b.n a.n came.did.node (λ same. two_nodes the (sym same)) in
       goes_on 1 (came.did.fate ∙ answer.indirect)
@@ -106,28 +106,36 @@ module _ (the : PairRecord) (back : Bool) where
       gone.back.0)
 
   -- the receiver's bubble at the sender
-  pub at_sender : (last : ℕ) (later : List Full) → Delivery lab H q last → length (wire H) ≡ suc last
+  pub at_sender : {last : ℕ} (later : List Full) → Delivery lab H q last → length (wire H) ≡ suc last
       → At H last (embedded b.own) (embedded a.own) (bubble_bytes b.own a.own) → Sends p H back → Back p H → Forth p H → Next p H q back trusted last later 2
-  at_sender last later d long at sends inward forth =
+  at_sender {last} later d long at sends inward forth =
       let x = bubble_bytes b.own a.own in
       let came : Arrival lab H q a.n (client a.c) (udp (embedded b.own) (embedded a.own) x) = arrival lab H q last d (record {
         number = a.n;
         node = client a.c;
         item = udp (embedded b.own) (embedded a.own) x;
         at = at;
-        goes = to_client p.lab is.rules H a.n a.c (embedded b.own) (embedded a.own) x is.sender.there
+        goes = to_client p.lab is.rules H a.n x is.sender.there
             (to_sender the (embedded b.own) inward);
       }) in
       let e : Entry = entry_of lab H (now H) a.n (embedded a.own) (arrived (embedded b.own) x) (client a.c) in
       let bubble = bubble_reads_back b.own a.own is.receiver.address.of.sixteen is.sender.address.of.sixteen in
-      let heard = hears_bubble (setup p.lab a) (journal a.n H) (now H) (bubble_of b.own a.own) is.sender_meets back (sender_knows the back sends)
-      (bubble_small b.own a.own) x bubble.payload bubble.bubble (words lab a.n H) in
+      let heard = hears_bubble (record {
+        s = setup p.lab a;
+        j = journal a.n H;
+        n = now H;
+        p = bubble_of b.own a.own;
+        meets = is.sender_meets;
+        trusted = back;
+        knows = sender_knows the back sends;
+        small = bubble_small b.own a.own;
+      }) bubble.payload bubble.bubble (words lab a.n H) in
       let next = next_is the came.calm came.did.moment in
-      let gone = all_leaves lab H q a e (sender_sends the e came.did) (send (embedded b.own) p.x ∷ [])
+      let gone = all_leaves (sender_sends the e came.did) (send (embedded b.own) p.x ∷ [])
       (heard.sends ∙ ap (releases (embedded b.own)) sends.waits)
-      (elsewhere p.lab is.rules a b is.sender is.receiver is.apart, tt) in
+      (elsewhere (record { lab = p.lab; is = is.rules; a = a; b = b; an = is.sender; bn = is.receiver }) is.apart, tt) in
       let more = one_more H q last (udp (embedded a.own) (embedded b.own) p.x) long gone.made in
-      let left = after_bubble (setup p.lab a) (journal a.n H) (now H) b.own e heard.about heard.moment x heard.came back sends.trust heard.hears in
+      let left = after_bubble (record { s = setup p.lab a; j = journal a.n H; n = now H; peer = b.own; e = e; about = heard.about; moment = heard.moment }) x heard.came back sends.trust heard.hears in
       let jb = other_journal lab H q a.n b.n came.did.node (two_nodes the) in
       goes_on 0 (came.did.fate ∙ heard.hears)
       (ground_on p H q next trusted trusted ground (same_after the a e came.did.later left.address, same_address the b jb)
@@ -143,7 +151,7 @@ module _ (the : PairRecord) (back : Bool) where
         node = client b.c;
         item = udp (embedded a.own) (embedded b.own) p.x;
         at = at;
-        goes = to_client p.lab is.rules H b.n b.c (embedded a.own) (embedded b.own) p.x is.receiver.there
+        goes = to_client p.lab is.rules H b.n p.x is.receiver.there
             (to_receiver the (embedded a.own) forth);
       }) in
       let e : Entry = entry_of lab H (now H) b.n (embedded b.own) (arrived (embedded a.own) p.x) (client b.c) in
@@ -155,15 +163,15 @@ module _ (the : PairRecord) (back : Bool) where
       subst (λ (z : Ip6). Knows (setup p.lab b) (journal b.n H) (now H) z (fields_in p.x).src trusted) dst
       (subst (λ (z : Ip6). Knows (setup p.lab b) (journal b.n H) (now H) b.own z trusted) src (receiver_knows the)) in
       let short : length p.x ≤ DATAGRAM_MAX = (let bound : length p.x ≤ 1280 = is.packet.short in fits (length p.x) bound) in
-      let hands = hands_packet (setup p.lab b) (journal b.n H) (now H) (fields_in p.x) meets trusted known_so is.small p.x
+      let hands = hands_packet (record { s = setup p.lab b; j = journal b.n H; n = now H; p = fields_in p.x; meets = meets; trusted = trusted; knows = known_so; small = is.small })
       (packet_is_payload p.x (fields_in p.x) is.bytes short (read_as p.x is.packet.packet)) is.packet.no_bubble (words lab b.n H) in
       let same : entry_of lab H (now H) b.n (embedded b.own) (arrived (embedded (fields_in p.x).src) p.x) (client b.c) ≡ e =
       ap (λ (z : Ip6). entry_of lab H (now H) b.n (embedded b.own) (arrived (embedded z) p.x) (client b.c)) (sym src) in
-      let here = subst (Hands (setup p.lab b) (journal b.n H) (now H) (fields_in p.x) meets trusted known_so is.small trusted p.x) same hands in
+      let here = subst (Hands (record { s = setup p.lab b; j = journal b.n H; n = now H; p = fields_in p.x; meets = meets; trusted = trusted; knows = known_so; small = is.small }) trusted p.x) same hands in
       let none : e.step.sends ≡ [] = here.sends ∙ ap (λ (z : Ip6). releases (embedded (fields_in p.x).src)
       (known (mentions (journal b.n H).entries) (now H) z).waiting) (sym src) ∙ ap (releases (embedded (fields_in p.x).src)) ground.keeps_nothing.waits in
       let next = next_is the came.calm came.did.moment in
-      let left = after_packet (setup p.lab b) (journal b.n H) (now H) a.own e (here.about ∙ ap (λ (z : Ip6). Some z) (sym src)) here.moment p.x
+      let left = after_packet (record { s = setup p.lab b; j = journal b.n H; n = now H; peer = a.own; e = e; about = here.about ∙ ap (λ (z : Ip6). Some z) (sym src); moment = here.moment }) p.x
       (here.came ∙ ap (λ (z : Ip6). arrived (embedded z) p.x) (sym src)) trusted ground.keeps_nothing.trust here.over in
       let ja = other_journal lab H q b.n a.n came.did.node (λ other. two_nodes the (sym other)) in
       ends (came.did.fate ∙ here.over)

@@ -17,8 +17,18 @@ pub record MayTell (lab : Lab) (row : ServerNode) (peer : Ip6) (from : Ep) : Typ
   pub no_secondary : same_ip from.ip row.secondary ≡ false
   pub unforged : (is_teredo peer && not (same_ep (embedded peer) from)) ≡ false
 
-module _ (lab : Lab) (a : Side) (end : IsEnd lab a.n a.c a.own) (peer : Ip6) (from : Ep)
-    (may : MayTell lab end.server_row peer from) where
+-- what a server may tell a client of a peer
+pub record ServerTells : Type 0 where
+  pub lab : Lab
+  pub a : Side
+  pub end : IsEnd lab a.n a.c a.own
+  pub peer : Ip6
+  pub from : Ep
+  pub may : MayTell lab end.server_row peer from
+
+module _ (server_tells : ServerTells) where
+  open server_tells use {lab, a, end, peer, from, may}
+
   abbrev row : ServerNode
   row = end.server_row
 
@@ -47,8 +57,8 @@ module _ (lab : Lab) (a : Side) (end : IsEnd lab a.n a.c a.own) (peer : Ip6) (fr
 
   -- the client's endpoint is at none
   pub no_own : is_own s (embedded a.own).ip ≡ false
-  no_own = not_own (embedded a.own).ip (no_server_address lab may.rules a a end end)
-      (no_server_second lab may.rules a a end end)
+  no_own = not_own (embedded a.own).ip (no_server_address (record { lab = lab; is = may.rules; a = a; b = a; an = end; bn = end }))
+      (no_server_second (record { lab = lab; is = may.rules; a = a; b = a; an = end; bn = end }))
 
   -- the server keeps the rules
   keeps : IsServerNode row

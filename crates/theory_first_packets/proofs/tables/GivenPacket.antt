@@ -79,9 +79,9 @@ module _ (s : Settings) (j : Journal) (n : ℕ) (x : List ℕ) (is_one : is_pack
       ∙ ap (λ (o : Option (List ℕ)). entry n (given x) o (Some (fields_in x).dst) w (transmission_step s standing_for x (fields_in x).dst w f)) whole
 
   -- where its destination is fresh it goes to where that one is trusted
-  pub sent_there : (at : Ep) → GoesOut given_here → is_fresh n (known (mentions j.entries) n (fields_in x).dst) ≡ true
+  pub sent_there : {at : Ep} → GoesOut given_here → is_fresh n (known (mentions j.entries) n (fields_in x).dst) ≡ true
       → (known (mentions j.entries) n (fields_in x).dst).trusted ≡ Some at → (w : Words) → (client_out s j n x w).step.sends ≡ send at x ∷ []
   unfolding standing_at
-  sent_there at out fresh trusted w = subst (λ (e : Entry). e.step.sends ≡ send at x ∷ [])
+  sent_there {at} out fresh trusted w = subst (λ (e : Entry). e.step.sends ≡ send at x ∷ [])
       (sym (entry_given w fate.Sent (fresh_is_sent given_here (record { out = out; fresh = fresh }))))
       (ap (λ (o : Option Ep). map (λ (z : Ep). send z x) (option_to_list o)) trusted)

@@ -6,9 +6,22 @@ use Rattle.theory_first_packets.proofs.tables.Known.{not_spent, not_full}
 use Rattle.theory_first_packets.proofs.tables.Meeting.{Meets}
 use Rattle.theory_first_packets.proofs.passing.OwnAddress.{IsHere, address_is}
 
+-- a packet of the host to a peer that the client may meet
+pub record HostSends : Type 0 where
+  pub s : Settings
+  pub j : Journal
+  pub n : ℕ
+  pub x : List ℕ
+  pub is_one : is_packet x ≡ true
+  pub meets : Meets s (fields_in x).src (fields_in x).dst
+  pub here : IsHere s j (fields_in x).src
+  pub small : is_big (fields_in x) ≡ false
+  pub plain : is_bubble (fields_in x) ≡ false
+
 -- x, from this client to the peer
-module _ (s : Settings) (j : Journal) (n : ℕ) (x : List ℕ) (is_one : is_packet x ≡ true) (meets : Meets s (fields_in x).src (fields_in x).dst)
-    (here : IsHere s j (fields_in x).src) (small : is_big (fields_in x) ≡ false) (plain : is_bubble (fields_in x) ≡ false) where
+module _ (host_sends : HostSends) where
+  open host_sends use {s, j, n, x, is_one, meets, here, small, plain}
+
   abbrev to : Ip6
   to = (fields_in x).dst
 

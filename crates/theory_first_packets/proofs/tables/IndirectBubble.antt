@@ -68,11 +68,11 @@ module _ (s : Settings) (j : Journal) (n : ℕ) (own peer : Ip6) (at : Ep) (may 
     pub moment : e.moment ≡ n
 
   -- by the table
-  pub answers_it : (x : List ℕ) → ReadsPayload told x → is_bubble (bubble_of peer own) ≡ true → (w : Words)
+  pub answers_it : {x : List ℕ} → ReadsPayload told x → is_bubble (bubble_of peer own) ≡ true → (w : Words)
       → Answers (client_in s j n (server_ep s.primary) x w)
   unfolding standing_at
-  answers_it x reads bubble w =
-      subst Answers (sym (entry_here s j n (server_ep s.primary) x told reads w fate.Indirect
+  answers_it {x} reads bubble w =
+      subst Answers (sym (entry_here s j n (server_ep s.primary) x told reads w
       (answered (seen_here s j n (server_ep s.primary) x told reads) (advert_row s (standing_at s j n peer).qualification (server_ep s.primary) told)
       (through_server bubble))))
       (record {

@@ -23,9 +23,21 @@ pub record Knows (s : Settings) (j : Journal) (n : ℕ) (own peer : Ip6) (truste
 
 -- A DATAGRAM FROM THE PEER
 
+-- a packet of a peer, and what the client knows of it
+pub record PeerKnown : Type 0 where
+  pub s : Settings
+  pub j : Journal
+  pub n : ℕ
+  pub p : Fields
+  pub meets : Meets s p.dst p.src
+  pub trusted : Bool
+  pub knows : Knows s j n p.dst p.src trusted
+  pub small : is_big p ≡ false
+
 -- with the packet p, from the peer to this client
-module _ (s : Settings) (j : Journal) (n : ℕ) (p : Fields) (meets : Meets s p.dst p.src) (trusted : Bool) (knows : Knows s j n p.dst p.src trusted)
-    (small : is_big p ≡ false) where
+module _ (peer_known : PeerKnown) where
+  open peer_known use {s, j, n, p, meets, trusted, knows, small}
+
   own_is : own_address (qualification s j) ≡ p.dst
   own_is = address_is s j p.dst knows.here.address
 
@@ -65,10 +77,10 @@ module _ (s : Settings) (j : Journal) (n : ℕ) (p : Fields) (meets : Meets s p.
     pub moment : e.moment ≡ n
 
   -- by the table
-  pub hears_bubble : (x : List ℕ) → ReadsPayload (value_written None None p) x → is_bubble p ≡ true → (w : Words)
+  pub hears_bubble : {x : List ℕ} → ReadsPayload (value_written None None p) x → is_bubble p ≡ true → (w : Words)
       → Releases trusted x (client_in s j n (embedded p.src) x w)
   unfolding standing_at
-  hears_bubble x reads bubble w = by trusted (bubble_heard (seen_here s j n (embedded p.src) x v reads) advert from_peer bubble trusted knows.trust) where
+  hears_bubble {x} reads bubble w = by trusted (bubble_heard (seen_here s j n (embedded p.src) x v reads) advert from_peer bubble trusted knows.trust) where
     v : Value
     v = value_written None None p
 
@@ -77,9 +89,9 @@ module _ (s : Settings) (j : Journal) (n : ℕ) (p : Fields) (meets : Meets s p.
 
     by : (t : Bool) → reception_row (seen_here s j n (embedded p.src) x v reads) advert ≡ hears_by t
         → Releases t x (client_in s j n (embedded p.src) x w)
-    by true e = subst (Releases true x) (sym (entry_here s j n (embedded p.src) x v reads w fate.Rule1Bubble e))
+    by true e = subst (Releases true x) (sym (entry_here s j n (embedded p.src) x v reads w e))
         (record { hears = refl; came = refl; sends = refl; about = refl; moment = refl })
-    by false e = subst (Releases false x) (sym (entry_here s j n (embedded p.src) x v reads w fate.Rule3Bubble e))
+    by false e = subst (Releases false x) (sym (entry_here s j n (embedded p.src) x v reads w e))
         (record { hears = refl; came = refl; sends = refl; about = refl; moment = refl })
 
   -- any other packet goes to the host
@@ -92,10 +104,10 @@ module _ (s : Settings) (j : Journal) (n : ℕ) (p : Fields) (meets : Meets s p.
     pub moment : e.moment ≡ n
 
   -- by the table
-  pub hands_packet : (x : List ℕ) → ReadsPayload (value_written None None p) x → is_bubble p ≡ false → (w : Words)
+  pub hands_packet : {x : List ℕ} → ReadsPayload (value_written None None p) x → is_bubble p ≡ false → (w : Words)
       → Hands trusted x (client_in s j n (embedded p.src) x w)
   unfolding standing_at
-  hands_packet x reads plain w = by trusted (packet_handed (seen_here s j n (embedded p.src) x v reads) advert from_peer plain trusted knows.trust) where
+  hands_packet {x} reads plain w = by trusted (packet_handed (seen_here s j n (embedded p.src) x v reads) advert from_peer plain trusted knows.trust) where
     v : Value
     v = value_written None None p
 
@@ -107,7 +119,7 @@ module _ (s : Settings) (j : Journal) (n : ℕ) (p : Fields) (meets : Meets s p.
 
     by : (t : Bool) → reception_row (seen_here s j n (embedded p.src) x v reads) advert ≡ hands_by t
         → Hands t x (client_in s j n (embedded p.src) x w)
-    by true e = subst (Hands true x) (sym (entry_here s j n (embedded p.src) x v reads w fate.Rule1 e))
+    by true e = subst (Hands true x) (sym (entry_here s j n (embedded p.src) x v reads w e))
         (record { over = refl; came = refl; sends = refl; handed = all; about = refl; moment = refl })
-    by false e = subst (Hands false x) (sym (entry_here s j n (embedded p.src) x v reads w fate.Rule3 e))
+    by false e = subst (Hands false x) (sym (entry_here s j n (embedded p.src) x v reads w e))
         (record { over = refl; came = refl; sends = refl; handed = all; about = refl; moment = refl })

@@ -163,10 +163,10 @@ module _ (s : Settings) (j : Journal) (n : ℕ) (from : Ep) (x : List ℕ) (v : 
       ∙ ap (λ (u : Value). row_of standing_to true u) reads.value
 
   -- so is the entry
-  pub entry_here : (w : Words) (f : Fate) → reception_row seen_here (advert_row s standing_to.qualification from v) ≡ f
+  pub entry_here : (w : Words) {f : Fate} → reception_row seen_here (advert_row s standing_to.qualification from v) ≡ f
       → client_in s j n from x w ≡ entry n (arrived from x) (packet_in x) (Some v.packet.src) w (reception_step s standing_to from x v w f)
   unfolding client_in reception
-  entry_here w f is =
+  entry_here w {f} is =
       ap (λ (g : Fate). entry n (arrived from x) (packet_in x) (source_in x) w (reception_step s (standing_of s j n (source_in x)) from x (value_in x) w g))
       (fate_here ∙ is)
       ∙ ap (λ (u : Value). entry n (arrived from x) (packet_in x) (source_in x) w (reception_step s (standing_of s j n (source_in x)) from x u w f)) reads.value

@@ -10,9 +10,24 @@ pub record IsSilent (step : Step) : Type 0 where
 
 -- WHAT WAS SEEN
 
+-- what a client sees of a packet from a peer that it doesn't trust and has no room for
+record UnheardTraits : Type 0 where
+  s : Settings
+  a : Standing
+  from : Ep
+  x : List ℕ
+  v : Value
+  w : Words
+  z : Seen
+  h : Heard
+  full : z.peer.room ≡ false
+  untrusted : z.peer.trusted_here ≡ false
+  teredo : z.teredo ≡ true
+
 -- of a packet of another client, which isn't trusted, and for which there is no room
-module _ (s : Settings) (a : Standing) (from : Ep) (x : List ℕ) (v : Value) (w : Words) (z : Seen) (h : Heard) (full : z.peer.room ≡ false)
-    (untrusted : z.peer.trusted_here ≡ false) (teredo : z.teredo ≡ true) where
+module _ (traits : UnheardTraits) where
+  open traits use {s, a, from, x, v, w, z, h, full, untrusted, teredo}
+
   no_room : {A : Type 0} → z.peer.room ≡ true → A
   no_room e = absurd (false≢true (sym full ∙ e))
 
@@ -36,9 +51,21 @@ module _ (s : Settings) (a : Standing) (from : Ep) (x : List ℕ) (v : Value) (w
 
 -- THE ENTRY
 
-module _ (s : Settings) (j : Journal) (n : ℕ) (from : Ep) (x : List ℕ) (peer : Ip6)
-    (source : source_in x ≡ Some peer) (teredo : is_teredo peer ≡ true)
-    (full : has_room (mentions j.entries) n peer ≡ false) where
+-- a packet from a peer for which a client has no room
+pub record UnheardPeer : Type 0 where
+  pub s : Settings
+  pub j : Journal
+  pub n : ℕ
+  pub from : Ep
+  pub x : List ℕ
+  pub peer : Ip6
+  pub source : source_in x ≡ Some peer
+  pub teredo : is_teredo peer ≡ true
+  pub full : has_room (mentions j.entries) n peer ≡ false
+
+module _ (unheard_peer : UnheardPeer) where
+  open unheard_peer use {s, j, n, from, x, peer, source, teredo, full}
+
   abbrev a : Standing
   a = standing_of s j n (source_in x)
 
@@ -69,7 +96,7 @@ module _ (s : Settings) (j : Journal) (n : ℕ) (from : Ep) (x : List ℕ) (peer
 
   pub silent : (w : Words) → IsSilent (client_in s j n from x w).step
   unfolding client_in reception
-  silent w = by_fate s a from x (value_in x) w (seen s a from x) (heard s a.qualification from (value_in x)) room_is untrusted of_client
+  silent w = by_fate (record { s = s; a = a; from = from; x = x; v = value_in x; w = w; z = seen s a from x; h = heard s a.qualification from (value_in x); full = room_is; untrusted = untrusted; teredo = of_client })
       (reception_fate s a from x) (reception_is_warranted s a from x)
 
 -- THE RECORD
@@ -84,7 +111,7 @@ module _ (lab : Lab) (H : List Full) (q : Full) (m : ℕ) (b : ClientNode) (peer
 
   is_silent : IsSilent is.entry.step
   is_silent = subst (λ (z : Entry). IsSilent z.step) (sym entry_is)
-      (silent (client_settings lab.topology b) (journal m H) q.moment is.from is.bytes peer is.source is.teredo is.full (words lab m H))
+      (silent (record { s = client_settings lab.topology b; j = journal m H; n = q.moment; from = is.from; x = is.bytes; peer = peer; source = is.source; teredo = is.teredo; full = is.full }) (words lab m H))
 
   pub nothing : (q.made ≡ []) × (q.handed ≡ None)
   nothing = (

@@ -23,6 +23,6 @@ module _ (s : Settings) (j : Journal) (n : ℕ) (x : List ℕ) (is_one : is_pack
   at_once is quick w = by (is_fresh n (known (mentions j.entries) n to)) refl quick where
     by : (b : Bool) → is_fresh n (known (mentions j.entries) n to) ≡ b → (b || has_cone to) ≡ true
         → (client_out s j n x w).step.sends ≡ send (embedded to) x ∷ []
-    by true fresh either = sent_there s j n x is_one (embedded to) (out s j n x is_one meets here small plain) fresh
+    by true fresh either = sent_there s j n x is_one (out (record { s = s; j = j; n = n; x = x; is_one = is_one; meets = meets; here = here; small = small; plain = plain })) fresh
         (fresh_is_there s j n to is meets.teredo fresh) w
-    by false stale cone = (goes_at_once s j n x is_one meets here small plain stale cone w).sends
+    by false stale cone = (goes_at_once (record { s = s; j = j; n = n; x = x; is_one = is_one; meets = meets; here = here; small = small; plain = plain }) stale cone w).sends

@@ -50,8 +50,8 @@ module _ (the : Both) (there_barred : IsBarredThere the.lab the.H the.n the.m) w
             rules = are.rules;
             sixteen = an.address.of.sixteen;
             usable = an.usable;
-            no_primary = no_server_address lab are.rules b a bn an;
-            no_secondary = no_server_second lab are.rules b a bn an;
+            no_primary = no_server_address (record { lab = lab; is = are.rules; a = b; b = a; an = bn; bn = an });
+            no_secondary = no_server_second (record { lab = lab; is = are.rules; a = b; b = a; an = bn; bn = an });
             unforged = and_right (is_teredo own) (not (same_ep (embedded own) (embedded own)))
                 (not_from_true (same_ep (embedded own) (embedded own)) (same_ep-self (embedded own)));
           }
@@ -84,14 +84,20 @@ module _ (the : Both) (there_barred : IsBarredThere the.lab the.H the.n the.m) w
       passed_on =
           let f = came.did in
           record {
-            made = subst (λ (ms : List Made). AllByRecursion IsIt (filter_map item_in ms)) (sym (at_server.passes_on lab
-                (b_side the) (receiver_end the) own (embedded own) may_tell G p
+            made = subst (λ (ms : List Made). AllByRecursion IsIt (filter_map item_in ms)) (sym (at_server.passes_on (record {
+              lab = lab;
+              a = b_side the;
+              end = receiver_end the;
+              peer = own;
+              from = embedded own;
+              may = may_tell;
+            }) G p
                 (server_ep row.primary) f sound)) (told refl, tt);
             stays = record {
               closed = at_same_moment Closed G p m (journal m G) f.moment (other_journal lab G p d.server m f.node no_client) mute.closed;
               shut = there.still_shut the there_barred G p mute f.moment (way_stays.stay lab G p d.server (server row) f.node f.passed
                   (receiver_end the).server_is refl (nats_of lab d) (receiver_end the).nats);
-              way = still_in lab G p (record { follows = g.0; calm = came.calm; moment = f.moment }) (asks_at lab d) (nats_of lab d) d.inside (embedded other)
+              way = still_in {lab = lab} G {r = p} (record { follows = g.0; calm = came.calm; moment = f.moment }) (asks_at lab d) (nats_of lab d) d.inside (embedded other)
                   mute.way;
             };
             silent = λ b. no_client (ap (λ (o : Option ℕ). unwrap_or o d.server) (sym f.node ∙ b.node));

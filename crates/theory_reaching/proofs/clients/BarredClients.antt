@@ -79,8 +79,8 @@ distant_so a (inr s) = s.distant
 pub barred_sender_is_silent : BarredSenderIsSilent
 unfolding two_clients
 barred_sender_is_silent lab H q n m c d x g at to said barred sent =
-    let w = of_clients lab H n m word.Barred (λ a. IsHeldBack a ⊎ IsUnanswered a) (λ a w. held_back a (ap is_barred_word w)) c d at to said in
-    let taken = host_hands lab H q n (client c) (address_at lab H n) (address_at lab H m) x at g.0 sent.handed in
+    let w = of_clients (record { lab = lab; H = H; n = n; m = m; said = word.Barred }) (λ a. IsHeldBack a ⊎ IsUnanswered a) (λ a w. held_back a (ap is_barred_word w)) c d at to said in
+    let taken = host_hands H at g.0 sent.handed in
     nothing_made lab H q n c (address_at lab H m) x
     (closed_off lab H q n m c d x taken sent (distant_so (two_clients lab H n m c d) w) barred)
 
@@ -89,7 +89,7 @@ barred_sender_is_silent lab H q n m c d x g at to said barred sent =
 pub barred_is_kept : KeepsBetweenClients word.Barred
 unfolding two_clients
 barred_is_kept lab H is chained q later n m c d x g at to said sent fresh =
-    two (of_clients lab H n m word.Barred (λ a. IsHeldBack a ⊎ IsUnanswered a) (λ a w. held_back a (ap is_barred_word w)) c d at to said) where
+    two (of_clients (record { lab = lab; H = H; n = n; m = m; said = word.Barred }) (λ a. IsHeldBack a ⊎ IsUnanswered a) (λ a w. held_back a (ap is_barred_word w)) c d at to said) where
       there : Grown lab (q ∷ H)
       there = earlier lab later (q ∷ H) g
 
@@ -97,7 +97,7 @@ barred_is_kept lab H is chained q later n m c d x g at to said sent fresh =
       other = address_at lab H m
 
       taken : Handing lab H q n (client c) x
-      taken = host_hands lab H q n (client c) (address_at lab H n) (address_at lab H m) x at there.0 sent.handed
+      taken = host_hands H at there.0 sent.handed
 
       two : IsHeldBack (two_clients lab H n m c d) ⊎ IsUnanswered (two_clients lab H n m c d) → SomeBrings m (client d) x later → ⊥
       two (inl s) = subst (SomeBrings m (client d) x) (none_follow lab H q n c other x (closed_off lab H q n m c d x taken sent s.distant s.barred)

@@ -35,7 +35,14 @@ module _ (the : Both) (there_barred : IsBarredThere the.lab the.H the.n the.m) w
 
   -- A DELIVERY
 
-  module _ (this : OneDelivery lab) (sound : HasNoFault this.p) (mute : IsMute the there_barred this.G) where
+  -- a delivery by which nothing came, and the receiver is mute
+  pub record MuteDelivery : Type 0 where
+    pub this : OneDelivery lab
+    pub sound : HasNoFault this.p
+    pub mute : IsMute the there_barred this.G
+
+  module _ (mute_delivery : MuteDelivery) where
+    open mute_delivery use {this, sound, mute}
     open this use {G, p, serial, y, g, delivered, at}
 
     abbrev Result : Type 0
@@ -53,9 +60,9 @@ module _ (the : Both) (there_barred : IsBarredThere the.lab the.H the.n the.m) w
 
       -- it comes to nobody
       to_no_node : (i : ℕ) (a : Node) → route lab G (now G) y ≡ reaches i a → ⊥
-      to_no_node i a goes = by (comes_or_not lab G g.1 (asks_at lab d) (embedded own)
+      to_no_node i a goes = by (comes_or_not (record { lab = lab; H = G; g = g.1; src = asks_at lab d; other = embedded own })
           (embedded other) d server_in_here) where
-            by : Comes lab G g.1 (asks_at lab d) (embedded own) (embedded other) d → ⊥
+            by : Comes (record { lab = lab; H = G; g = g.1; src = asks_at lab d; other = embedded own }) (embedded other) d → ⊥
             by (let_in_too enters) = mute.shut led (enters_by_its_way lab G (now G) (embedded own) (embedded other) d are.chained enters)
             by (shut_there j out) = false≢true (ap is_reached
                 (sym (to_none lab are.rules G (embedded own) (embedded other) (bubble_bytes own other) j out)
@@ -70,7 +77,7 @@ module _ (the : Both) (there_barred : IsBarredThere the.lab the.H the.n the.m) w
         stays = record {
           closed = at_same_moment Closed G p m (journal m G) miss.moment (miss.journals m) mute.closed;
           shut = there.still_shut the there_barred G p mute miss.moment (each_so (λ j _. miss.nats j) (nats_of lab d) (receiver_end the).nats);
-          way = still_in lab G p (record { follows = g.0; calm = nats_left lab p miss.still miss.lasting; moment = miss.moment }) (asks_at lab d)
+          way = still_in {lab = lab} G {r = p} (record { follows = g.0; calm = nats_left lab p miss.still miss.lasting; moment = miss.moment }) (asks_at lab d)
               (nats_of lab d) d.inside (embedded other) mute.way;
         };
         silent = missed_brings lab G p u m x miss;
@@ -89,5 +96,5 @@ module _ (the : Both) (there_barred : IsBarredThere the.lab the.H the.n the.m) w
 
   -- so no delivery brings it
   pub none_come : NoneBrings lab H q m (client d) x
-  none_come = none_brings lab H q m (client d) x IsIt IsMuteAt (λ this sound is mute. step this sound mute is)
+  none_come = none_brings lab H q m (client d) x IsIt IsMuteAt (λ this sound is mute. step (record { this = this; sound = sound; mute = mute }) is)
       (number the) (there.all_coming the there_barred) (there.at_first the there_barred)

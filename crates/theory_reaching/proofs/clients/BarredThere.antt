@@ -62,7 +62,7 @@ module _ (the : Both) (there_barred : IsBarredThere the.lab the.H the.n the.m) w
   shut_before : IsShut → Enters H (now H) → ⊥
   unfolding is_led_to
   shut_before led enters =
-      let goes = to_client lab are.rules H m d (embedded own) (embedded other) [] are.to
+      let goes = to_client lab are.rules H m [] are.to
       (is_let_in lab H (now H) (embedded own) (embedded other) m d are.rules are.chained there enters) in
       false≢true (sym led ∙ ap (ends_at m) goes ∙ same_number m)
 
@@ -74,8 +74,19 @@ module _ (the : Both) (there_barred : IsBarredThere the.lab the.H the.n the.m) w
   }
 
   stay : AllByRecursion (λ (k : ℕ). nat_history lab k (q ∷ H) ≡ nat_history lab k H) (nats_of lab d)
-  stay = all_stay lab H q n c d ways_apart (did the).node (ap (option_and_then as_client) are.at)
-      (keeps_to_its_way lab H q are.grown.0) (frame lab H q).nats
+  stay = all_stay (record {
+    lab = lab;
+    H = H;
+    q = q;
+    n = n;
+    c = c;
+    d = d;
+    apart = ways_apart;
+    node = (did the).node;
+    there = ap (option_and_then as_client) are.at;
+    keeps = keeps_to_its_way lab H q are.grown.0;
+    nats = (frame lab H q).nats;
+  })
       (each_so (no_nat lab n (client c) are.at refl) (nats_of lab d) (receiver_end the).nats)
 
   pub at_first : IsMute (q ∷ H)
@@ -99,9 +110,17 @@ module _ (the : Both) (there_barred : IsBarredThere the.lab the.H the.n the.m) w
       subst (λ (z : Ip6). AllByRecursion (IsBubbleTo z other) sends)
       (address_is s (journal n H) own (sender_here the).address)
       (subst (λ (z : Ip6). AllByRecursion (IsBubbleTo (own_address (qualification s (journal n H))) z) sends) goes
-      (sends_bubbles s (journal n H) (now H) x (words lab n H) are.handed.packet.packet (ap is_teredo goes ∙ teredo)
-      (ap (λ (z : Ip6). is_fresh (now H) (known_by H n z)) goes ∙ there_barred.stale)
-      (and_right (is_teredo (fields_in x).dst) (has_cone (fields_in x).dst) (ap has_cone goes ∙ there_barred.plain))))
+      (sends_bubbles (record {
+        s = s;
+        j = journal n H;
+        n = now H;
+        x = x;
+        w = words lab n H;
+        is_one = are.handed.packet.packet;
+        teredo = ap is_teredo goes ∙ teredo;
+        stale = ap (λ (z : Ip6). is_fresh (now H) (known_by H n z)) goes ∙ there_barred.stale;
+        plain = and_right (is_teredo (fields_in x).dst) (has_cone (fields_in x).dst) (ap has_cone goes ∙ there_barred.plain);
+      })))
 
   abbrev Coming : Send → Type 0
   Coming s = IsComing (udp (embedded own) s.to s.bytes)
@@ -119,11 +138,23 @@ module _ (the : Both) (there_barred : IsBarredThere the.lab the.H the.n the.m) w
 
   one_elsewhere : (s : Send) → IsBubbleTo own other s → IsElsewhere lab s.to.ip (nats_of lab c)
   one_elsewhere s (inl direct) = subst (λ (z : Send). IsElsewhere lab z.to.ip (nats_of lab c)) (sym direct.1)
-      (elsewhere lab are.rules (a_side the) (b_side the)
-      (sender_end the) (receiver_end the) (differ the))
+      (elsewhere (record {
+        lab = lab;
+        is = are.rules;
+        a = a_side the;
+        b = b_side the;
+        an = sender_end the;
+        bn = receiver_end the;
+      }) (differ the))
   one_elsewhere s (inr same) = subst (λ (z : Send). IsElsewhere lab z.to.ip (nats_of lab c)) (sym same)
-      (server_elsewhere lab are.rules (b_side the) (a_side the)
-      (receiver_end the) (sender_end the))
+      (server_elsewhere (record {
+        lab = lab;
+        is = are.rules;
+        a = b_side the;
+        b = a_side the;
+        an = receiver_end the;
+        bn = sender_end the;
+      }))
 
   items : (xs : List Send) → AllByRecursion (IsBubbleTo own other) xs
       → AllByRecursion IsComing (filter_map item_in (map (λ (s : Send). sent (udp (embedded own) s.to s.bytes)) xs))

@@ -57,7 +57,7 @@ module _ (the : Both) (there_barred : IsBarredThere the.lab the.H the.n the.m) w
         node = client d;
         item = udp (server_ep row.primary) (embedded other) z;
         at = at ∙ ap (λ (u : Item). Some u) is;
-        goes = to_client lab are.rules G m d (server_ep row.primary) (embedded other) z are.to
+        goes = to_client lab are.rules G m z are.to
             (is_let_in lab G (now G) (server_ep row.primary) (embedded other) m d are.rules are.chained (ap (option_and_then as_client) are.to)
             (enters_along lab G g.1 (server_ep row.primary) (nats_of lab d) d.inside (embedded other) its_way));
       })
@@ -79,8 +79,18 @@ module _ (the : Both) (there_barred : IsBarredThere the.lab the.H the.n the.m) w
       got = client_in (client_settings lab.topology d) (journal m G) (now G) (server_ep row.primary) z (words lab m G)
 
       quiet : IsDeaf (journal m G) (now G) own got
-      quiet = deaf (client_settings lab.topology d) (journal m G) (now G) (server_ep row.primary) z v reads from_its (ap is_advert (bubble_message own other))
-          mute.closed (words lab m G)
+      quiet = deaf (record {
+        s = client_settings lab.topology d;
+        j = journal m G;
+        n = now G;
+        from = server_ep row.primary;
+        x = z;
+        v = v;
+        reads = reads;
+        server = from_its;
+        no_advert = ap is_advert (bubble_message own other);
+        closed = mute.closed;
+      }) (words lab m G)
 
       pub unanswered : Result
       unanswered =
@@ -93,7 +103,7 @@ module _ (the : Both) (there_barred : IsBarredThere the.lab the.H the.n the.m) w
               shut = there.still_shut the there_barred G p mute f.moment (way_stays.stay lab G p m (client d) f.node
                   (f.passed ∙ ap (λ (us : List Send). (by_way lab G (now G) (way_out lab.chain d.nat) d.inside (armed G) 0 [] us).passed) quiet.sends)
                   are.to refl (nats_of lab d) (receiver_end the).nats);
-              way = still_in lab G p (record { follows = g.0; calm = to_receiver.calm; moment = f.moment }) (asks_at lab d) (nats_of lab d) d.inside
+              way = still_in {lab = lab} G {r = p} (record { follows = g.0; calm = to_receiver.calm; moment = f.moment }) (asks_at lab d) (nats_of lab d) d.inside
                   (embedded other) mute.way;
             };
             silent = brings_nothing p m x (f.handed ∙ ap (λ (o : Option Span). option_and_then (part_of got.input) o) quiet.handed) (f.late ∙ quiet.late);

@@ -132,11 +132,11 @@ module _ (the : Both) where
   server_way = way_of_server lab H m d other receiver_settles
 
   pub server_way_then : WayIn lab (q ∷ H) (asks_at lab d) (nats_of lab d) d.inside (embedded other)
-  server_way_then = still_in lab H q next (asks_at lab d) (nats_of lab d) d.inside (embedded other) server_way
+  server_way_then = still_in H next (asks_at lab d) (nats_of lab d) d.inside (embedded other) server_way
 
   -- the sender's sends leave from its own endpoint
   pub leave : (xs : List Send) → e.step.sends ≡ xs → AllByRecursion (λ (s : Send). IsElsewhere lab s.to.ip (nats_of lab c)) xs → AllSent lab H q c own xs
-  leave = all_leaves lab H q a_side e (record {
+  leave = all_leaves {lab = lab} {H = H} {q = q} {a = a_side} {e = e} (record {
     end = sender_end;
     kinds = sender_along.kinds;
     grown = are.grown.1;

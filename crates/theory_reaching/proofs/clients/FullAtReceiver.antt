@@ -36,7 +36,14 @@ module _ (the : Both) (room : has_room (mentions (journal the.m the.H).entries) 
 
   -- A DELIVERY
 
-  module _ (this : OneDelivery lab) (sound : HasNoFault this.p) (full : IsFull this.G) where
+  -- a delivery by which nothing came, and the receiver is full
+  pub record FullDelivery : Type 0 where
+    pub this : OneDelivery lab
+    pub sound : HasNoFault this.p
+    pub full : IsFull this.G
+
+  module _ (full_delivery : FullDelivery) where
+    open full_delivery use {this, full}
     open this use {G, p, serial, y, g, delivered, at}
 
     abbrev pub Result : Type 0
@@ -49,7 +56,7 @@ module _ (the : Both) (room : has_room (mentions (journal the.m the.H).entries) 
     pub stays : (j : Journal) → p.moment ≡ now G → journal m (p ∷ G) ≡ j → has_room (mentions j.entries) (now G) own ≡ false → IsFull (p ∷ G)
     stays j moment same none = record {
       full = at_same_moment (λ (i : Journal) (t : ℕ). has_room (mentions i.entries) t own ≡ false) G p m j moment same none;
-      way = still_in lab G p (record { follows = g.0; calm = leaves_nats lab G p serial delivery; moment = moment }) (asks_at lab d) (nats_of lab d)
+      way = still_in {lab = lab} G {r = p} (record { follows = g.0; calm = leaves_nats lab G p serial delivery; moment = moment }) (asks_at lab d) (nats_of lab d)
           d.inside (embedded other) full.way;
     }
 
@@ -85,8 +92,18 @@ module _ (the : Both) (room : has_room (mentions (journal the.m the.H).entries) 
           subst (λ (t : ℕ). has_room (mentions (journal m G).entries) t v.packet.src ≡ false) (sym reached.moment)
           (ap (has_room (mentions (journal m G).entries) (now G)) source ∙ full.full) in
           let h : HearsNothing (journal m G) p.moment v.packet.src (client_in s (journal m G) p.moment src z (words lab m G)) =
-          hears_nothing s (journal m G) p.moment src z v reads
-          (ap is_teredo source ∙ (sender_end the).address.of.teredo) full_then no_advert (words lab m G) in
+          hears_nothing (record {
+            s = s;
+            j = journal m G;
+            n = p.moment;
+            from = src;
+            x = z;
+            v = v;
+            reads = reads;
+            teredo = ap is_teredo source ∙ (sender_end the).address.of.teredo;
+            full = full_then;
+            no_advert = no_advert;
+          }) (words lab m G) in
           let e : Entry = client_in s (journal m G) p.moment src z (words lab m G) in
           let made : p.made ≡ [] = reached.act.made
           ∙ ap (λ (xs : List Send). (by_way lab G p.moment (way_out lab.chain d.nat) d.inside (armed G) 0 [] xs).made) h.sends in
@@ -111,16 +128,16 @@ module _ (the : Both) (room : has_room (mentions (journal the.m the.H).entries) 
 
       -- it comes to the receiver, or to nobody
       to_receiver : (i : ℕ) (a : Node) (u : Item) → u ≡ y → IsReached lab G p i a u → Result
-      to_receiver i a u same reached = by (comes_or_not lab G g.1 (asks_at lab d) src
+      to_receiver i a u same reached = by (comes_or_not (record { lab = lab; H = G; g = g.1; src = asks_at lab d; other = src })
           (embedded other) d (is_let_in lab G (now G) (asks_at lab d) (embedded other) m d are.rules are.chained there
           (enters_along lab G g.1 (asks_at lab d) (nats_of lab d) d.inside (embedded other) full.way))) where
             here : IsReached lab G p i a (udp src (embedded other) z)
             here = subst (IsReached lab G p i a) (same ∙ is) reached
 
-            by : Comes lab G g.1 (asks_at lab d) src (embedded other) d → Result
+            by : Comes (record { lab = lab; H = G; g = g.1; src = asks_at lab d; other = src }) (embedded other) d → Result
             by (let_in_too enters) =
                 let end = same_end (route lab G (now G) (udp src (embedded other) z)) i m a (client d) here.leads
-                (to_client lab are.rules G m d src (embedded other) z are.to enters) in
+                (to_client lab are.rules G m z are.to enters) in
                 heard (subst (λ (b : Node). IsReached lab G p m b (udp src (embedded other) z)) end.1
                 (subst (λ (j : ℕ). IsReached lab G p j a (udp src (embedded other) z)) end.0 here))
             by (shut_there j out) = absurd (false≢true (ap is_reached

@@ -57,7 +57,7 @@ somewhere_full a = past_opening (λ (r : Reach). is_full_word r ≡ true → IsD
 pub full_is_kept : KeepsBetweenClients word.Full
 unfolding two_clients
 full_is_kept lab H is chained q later n m c d x g at to said sent fresh =
-    two (of_clients lab H n m word.Full (λ a. IsDeaf a ⊎ IsCrowded a) (λ a w. somewhere_full a (ap is_full_word w)) c d at to said) where
+    two (of_clients (record { lab = lab; H = H; n = n; m = m; said = word.Full }) (λ a. IsDeaf a ⊎ IsCrowded a) (λ a w. somewhere_full a (ap is_full_word w)) c d at to said) where
       there : Grown lab (q ∷ H)
       there = earlier lab later (q ∷ H) g
 

@@ -26,8 +26,14 @@ module _ (the : Both) where
 
   -- nor is what comes from the sender itself
   from_sender : is_from_server (client_settings lab.topology d) (embedded own) ≡ false
-  from_sender = no_server lab are.rules (b_side the) (a_side the)
-      (receiver_end the) (sender_end the)
+  from_sender = no_server (record {
+    lab = lab;
+    is = are.rules;
+    a = b_side the;
+    b = a_side the;
+    an = receiver_end the;
+    bn = sender_end the;
+  })
 
   fits : (k : ℕ) → k ≤ 1280 → k ≤ DATAGRAM_MAX
   fits k h = omega (arith, h)
@@ -53,15 +59,27 @@ module _ (the : Both) where
   one_elsewhere : (s : Send) → IsSentTo own other x s → IsElsewhere lab s.to.ip (nats_of lab c)
   one_elsewhere s is = by is where
     at_other : There (embedded other)
-    at_other = elsewhere lab are.rules (a_side the) (b_side the)
-        (sender_end the) (receiver_end the) (differ the)
+    at_other = elsewhere (record {
+      lab = lab;
+      is = are.rules;
+      a = a_side the;
+      b = b_side the;
+      an = sender_end the;
+      bn = receiver_end the;
+    }) (differ the)
 
     by : IsSentTo own other x s → There s.to
     by (inl same) = subst (λ (z : Send). There z.to) (sym same) at_other
     by (inr (inl same)) = subst (λ (z : Send). There z.to) (sym same) at_other
     by (inr (inr same)) = subst (λ (z : Send). There z.to) (sym same)
-        (server_elsewhere lab are.rules (b_side the) (a_side the)
-        (receiver_end the) (sender_end the))
+        (server_elsewhere (record {
+          lab = lab;
+          is = are.rules;
+          a = b_side the;
+          b = a_side the;
+          an = receiver_end the;
+          bn = sender_end the;
+        }))
 
   abbrev sends : List Send
   sends = (e the).step.sends

@@ -43,8 +43,8 @@ module _ (the : Both) (room : has_room (mentions (journal the.m the.H).entries) 
             rules = are.rules;
             sixteen = an.address.of.sixteen;
             usable = an.usable;
-            no_primary = no_server_address lab are.rules b a bn an;
-            no_secondary = no_server_second lab are.rules b a bn an;
+            no_primary = no_server_address (record { lab = lab; is = are.rules; a = b; b = a; an = bn; bn = an });
+            no_secondary = no_server_second (record { lab = lab; is = are.rules; a = b; b = a; an = bn; bn = an });
             unforged = and_right (is_teredo own) (not (same_ep (embedded own) (embedded own)))
                 (not_from_true (same_ep (embedded own) (embedded own)) (same_ep-self (embedded own)));
           }
@@ -77,9 +77,14 @@ module _ (the : Both) (room : has_room (mentions (journal the.m the.H).entries) 
       passed_on =
           let told = bubble_reads_back own other (sender_end the).address.of.sixteen
           (receiver_end the).address.of.sixteen in
-          let made = at_server.passes_on lab (b_side the) (receiver_end the)
-          own (embedded own)
-          may_tell G p (server_ep row.primary) came.did sound in
+          let made = at_server.passes_on (record {
+            lab = lab;
+            a = b_side the;
+            end = receiver_end the;
+            peer = own;
+            from = embedded own;
+            may = may_tell;
+          }) G p (server_ep row.primary) came.did sound in
           record {
             made = subst (λ (ms : List Made). AllByRecursion IsIt (filter_map item_in ms)) (sym made) (
               coming (server_ep row.primary) (forwarded (Some (embedded own)) (bubble_bytes own other))
@@ -89,13 +94,13 @@ module _ (the : Both) (room : has_room (mentions (journal the.m the.H).entries) 
                   refl (no_advert the (server_ep row.primary)),
               tt,
             );
-            stays = stays the room this sound full (journal m G) came.did.moment
+            stays = stays the room (record { this = this; sound = sound; full = full }) (journal m G) came.did.moment
                 (other_journal lab G p d.server m came.did.node no_client) full.full;
             silent = λ b. no_client (ap (λ (o : Option ℕ). unwrap_or o d.server) (sym came.did.node ∙ b.node));
           }
 
     step : IsIt y → Result
-    step (coming src z v is reads source none) = comes the room this sound full (record {
+    step (coming src z v is reads source none) = comes the room (record { this = this; sound = sound; full = full }) (record {
       src = src;
       z = z;
       v = v;

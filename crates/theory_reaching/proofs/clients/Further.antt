@@ -70,7 +70,17 @@ module _ (the : Handed) where
 
   -- ONE MORE
 
-  module _ (later : List Full) (g : Grown lab (later ++ r ∷ H)) (fresh : AreFresh r later) (a : Event) (k : ℕ) where
+  -- one more event after a fresh schedule
+  pub record FurtherEvent : Type 0 where
+    pub later : List Full
+    pub g : Grown lab (later ++ r ∷ H)
+    pub fresh : AreFresh r later
+    pub a : Event
+    pub k : ℕ
+
+  module _ (further_event : FurtherEvent) where
+    open further_event use {later, g, fresh, a, k}
+
     abbrev G : List Full
     G = later ++ r ∷ H
 
@@ -130,7 +140,7 @@ module _ (the : Handed) where
   by_deliver : (later : List Full) → Grown lab (later ++ r ∷ H) → AreFresh r later → IsNameable (later ++ r ∷ H) → (k : ℕ) → r.first ≤ k
       → k < length (wire (later ++ r ∷ H)) → was_delivered k later ≡ false → GoesOn (later ++ r ∷ H) (event.Deliver k) → Further lab H r later
   by_deliver later g fresh short k low high new goes =
-      further later g fresh (event.Deliver k) k goes (small later short k high) refl low high new
+      further (record { later = later; g = g; fresh = fresh; a = event.Deliver k; k = k }) goes (small later short k high) refl low high new
 
   -- in a settle the next one is the first that is left, which is none of those before the packet
   module _ (q : Full) (later : List Full) (g : Grown lab (q ∷ later ++ r ∷ H)) (fresh : AreFresh r (q ∷ later)) where
@@ -162,7 +172,7 @@ module _ (the : Handed) where
         let s = is_settle B q.asked fresh.0.number is_of.asked (ap (has_more q.asked) (sym is_of.act) ∙ more) in
         let f = first_one (q ∷ B) 0 (wire (q ∷ B)) k (omega arith) (omega (arith, high)) (in_neither k (q ∷ later) (r ∷ H) new (not_by_it k low)) in
         let within : f.0 < 0 + length (wire (q ∷ B)) = f.1.within in
-        further (q ∷ later) g fresh event.Settle f.0 (λ _. sym s.0) tt
+        further (record { later = q ∷ later; g = g; fresh = fresh; a = event.Settle; k = f.0 }) (λ _. sym s.0) tt
         (ap (delivers_or lab (q ∷ B) (numbered 0 event.Settle) (blank (q ∷ B) (numbered 0 event.Settle) (plain verb.Settle) None fate.Done)) f.1.is)
         (no_sooner f.0 f.1.undelivered s.1) (omega (arith, within)) (in_later f.0 (q ∷ later) (r ∷ H) f.1.undelivered)
 

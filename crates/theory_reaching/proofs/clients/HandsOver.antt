@@ -35,7 +35,7 @@ module _ (the : Both)
   let_in_then = is_let_in lab (q ∷ H) (now (q ∷ H)) (embedded own) (embedded other) m d are.rules are.chained
       (ap (option_and_then as_client) are.to)
       (enters_along lab (q ∷ H) are.grown (embedded own) (nats_of lab d) d.inside (embedded other)
-      (still_in lab H q (next the) (embedded own) (nats_of lab d) d.inside (embedded other) way_in))
+      (still_in H (next the) (embedded own) (nats_of lab d) d.inside (embedded other) way_in))
 
   -- THE RECEIVER
 
@@ -63,7 +63,7 @@ module _ (the : Both)
           node = client d;
           item = udp (embedded own) (embedded other) x;
           at = its_place the quick;
-          goes = to_client lab are.rules G m d (embedded own) (embedded other) x are.to let_in_then;
+          goes = to_client lab are.rules G m x are.to let_in_then;
         })
 
     fits : (k : ℕ) → k ≤ 1280 → k ≤ DATAGRAM_MAX
@@ -79,12 +79,20 @@ module _ (the : Both)
 
     pub brings : GivesToHost m x p
     brings =
-        let hands = hands_packet (client_settings lab.topology d) (journal m G) (now G) (fields_in x) (its_own (Meets (client_settings lab.topology d)) its_meets)
-        (is_trusted_at (embedded (fields_in x).src) (known (mentions (journal m G).entries) (now G) (fields_in x).src)) (record {
-          here = its_own (λ to from. IsHere (client_settings lab.topology d) (journal m G) to) here_then;
-          room = its_own (λ to from. has_room (mentions (journal m G).entries) (now G) from ≡ true) room_then;
-          trust = refl;
-        }) (small the) x
+        let hands = hands_packet (record {
+          s = client_settings lab.topology d;
+          j = journal m G;
+          n = now G;
+          p = fields_in x;
+          meets = its_own (Meets (client_settings lab.topology d)) its_meets;
+          trusted = is_trusted_at (embedded (fields_in x).src) (known (mentions (journal m G).entries) (now G) (fields_in x).src);
+          knows = record {
+            here = its_own (λ to from. IsHere (client_settings lab.topology d) (journal m G) to) here_then;
+            room = its_own (λ to from. has_room (mentions (journal m G).entries) (now G) from ≡ true) room_then;
+            trust = refl;
+          };
+          small = small the;
+        })
         (packet_is_payload x (fields_in x) (bytes the) (fits (length x) are.handed.packet.short)
         (read_as x are.handed.packet.packet)) are.handed.packet.no_bubble (words lab m G) in
         let same : entry_of lab G (now G) m (embedded other) (arrived (embedded (fields_in x).src) x) (client d)

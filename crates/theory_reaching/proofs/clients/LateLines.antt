@@ -17,4 +17,4 @@ never_later kind a each last e =
 pub past_opening : (Q : Reach → Type 0) (a : TwoClients) → Q word.Off → Q word.Away → Q word.OneAddress → Q word.Moved
     → Q (first_line (early_client_lines a) (late_word a)) → Q (between_clients_row a)
 past_opening Q a off away self moved rest =
-    skip Q (opening_client_lines a) (early_client_lines a ++ late_client_lines a) word.Within5 (off, (away, (self, (moved, tt)))) rest
+    skip Q (opening_client_lines a) (early_client_lines a ++ late_client_lines a) word.Within5 (off, (away, (self, (moved, (moved, tt))))) rest

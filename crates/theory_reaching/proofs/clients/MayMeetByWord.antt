@@ -1,5 +1,5 @@
 -- `within 4` and `within 5`: the lines before them say that the two clients may meet.
-use Rattle.theory_reaching.proofs.Words.{Bool, ClientNode, Full, Grown, Ip6, IsOver, Lab, List, MayMeetAlong, Peer, Reach, Some, TwoClients, [], address_at, and_parts, ap, as_client, between_clients_row, by_lines, client, early_client_lines, eq-eqb, false, false≢true, has_cone, is_barred, is_fresh, is_none, is_settled, keeps_packets, known_by, late_client_lines, node_at, not, now, option_and_then, or_parts, outermost, refl, sym, true, two_clients, ℕ, ◌||◌, ◌∙◌, ◌∷◌, ◌≡◌}
+use Rattle.theory_reaching.proofs.Words.{Bool, ClientNode, Full, Grown, Ip6, IsOver, Lab, List, MayMeetAlong, Peer, Reach, Some, TwoClients, [], address_at, and_parts, ap, as_client, between_clients_row, by_lines, client, early_client_lines, eq-eqb, false, false≢true, has_cone, is_fresh, is_none, is_settled, keeps_packets, known_by, late_client_lines, node_at, not, now, option_and_then, or_parts, outermost, refl, sym, true, two_clients, ℕ, ◌||◌, ◌∙◌, ◌∷◌, ◌≡◌}
 use Rattle.theory_reaching.specs.declared.word.Reach.TheVariants as word
 use Rattle.theory_reaching.proofs.Tests.{elsewhere, held}
 use Rattle.theory_reaching.proofs.clients.LateLines.{past_opening, late_word}

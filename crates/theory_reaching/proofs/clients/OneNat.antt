@@ -130,7 +130,7 @@ module _ (c d : ClientNode) (the : NextPacket (client c) (client d)) (settled : 
 
   first_made : Grown lab (q ∷ H) → AllByRecursion (GoesElsewhere lab) (items_of q)
   first_made g =
-      let taken = host_hands lab H q n (client c) own (address_at lab H m) x the.at g.0 sent.handed in
+      let taken = host_hands H the.at g.0 sent.handed in
       all_elsewhere lab H q (host_puts_none lab H q.asked taken.verb n x taken.hands) is g
 
   -- so no delivery brings it
@@ -144,7 +144,7 @@ module _ (c d : ClientNode) (the : NextPacket (client c) (client d)) (settled : 
 pub one_nat_is_kept : KeepsBetweenClients word.OneNat
 unfolding two_clients
 one_nat_is_kept lab H is chained q later n m c d x g at to said sent fresh =
-    two (of_clients lab H n m word.OneNat AreNeighbours (λ a w. neighbours a (ap is_one_nat w)) c d at to said) where
+    two (of_clients (record { lab = lab; H = H; n = n; m = m; said = word.OneNat }) AreNeighbours (λ a w. neighbours a (ap is_one_nat w)) c d at to said) where
       two : AreNeighbours (two_clients lab H n m c d) → SomeBrings m (client d) x later → ⊥
       two are =
           let both = and_parts (is_settled lab H n c) (is_settled lab H m d) are.settled in

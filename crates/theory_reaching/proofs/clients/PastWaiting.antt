@@ -1,6 +1,6 @@
 -- `within 6` to `within 13` between clients: the receiver keeps packets for the sender, and lets them go at its bubble. The first of them
 -- that comes to the sender brings the packet.
-use Rattle.theory_reaching.proofs.Words.{Bool, ClientNode, ComesInTime, Full, Grown, Ip6, IsOver, IsPromised, IsSentNext, KeepsBetweenClients, KeepsItsPromise, Lab, List, Node, Peer, Reach, Relayed, Some, TwoClients, [], address_at, and_parts, ap, arith, between_clients_row, by_lines, client, cond, early_client_lines, embedded, eqb-true, false, false≢true, from_native_lines, from_native_row, has_cone, is_barred, is_fresh, is_led_to, is_none, is_settled, known_by, late_client_lines, length, node_at, not, now, or_parts, refl, relayed, sound_first, subst, sym, to_native_lines, to_native_row, true, two_clients, ℕ, ◌+◌, ◌||◌, ◌∙◌, ◌∷◌, ◌≡◌}
+use Rattle.theory_reaching.proofs.Words.{Bool, ClientNode, ComesInTime, Full, Grown, Ip6, IsOver, IsPromised, IsSentNext, KeepsBetweenClients, KeepsItsPromise, Lab, List, Node, Peer, Reach, Relayed, Some, TwoClients, [], address_at, and_parts, ap, arith, between_clients_row, by_lines, client, early_client_lines, embedded, eqb-true, false, false≢true, from_native_lines, from_native_row, has_cone, is_barred, is_fresh, is_led_to, is_none, is_settled, known_by, late_client_lines, length, node_at, not, now, or_parts, refl, relayed, sound_first, subst, sym, to_native_lines, to_native_row, true, two_clients, ℕ, ◌+◌, ◌||◌, ◌∙◌, ◌∷◌, ◌≡◌}
 use Rattle.theory_settled.proofs.Earlier.{earlier}
 use Rattle.theory_reaching.specs.declared.word.Reach.TheVariants as word
 use Rattle.theory_reaching.proofs.Lines.{which_held}
@@ -234,7 +234,7 @@ pub kept_between : (said : Reach) → is_past said ≡ true → KeepsBetweenClie
 kept_between said past lab H is chained q later n m c d x g at to is_said sent fresh =
     promised lab H q m (client c) (client d) x later said past (comes c d
     (record { lab = lab; H = H; is = is; chained = chained; q = q; later = later; n = n; m = m; x = x; g = g; at = at; to = to; sent = sent; fresh = fresh }) said
-    (of_clients lab H n m said (λ a. Passed a said) (λ a w. subst (Passed a) w (passed a (ap is_past w ∙ past))) c d at to is_said))
+    (of_clients (record { lab = lab; H = H; n = n; m = m; said = said }) (λ a. Passed a said) (λ a w. subst (Passed a) w (passed a (ap is_past w ∙ past))) c d at to is_said))
 
 -- those that are said of two clients alone
 abbrev is_of_two : Reach → Bool
@@ -253,7 +253,7 @@ never_from : (a : Relayed) → is_of_two (from_native_row a) ≡ true → ⊥
 never_from a e = which_held is_of_two (from_native_lines a) word.Within6 refl e
 
 kept : (said : Reach) → is_past said ≡ true → is_of_two said ≡ true → KeepsItsPromise said
-kept said past alone lab H is chained q later n m a b x g at to is_said sent fresh = by (said_by lab H n m said a b at to is_said) where
+kept said past alone lab H is chained q later n m a b x g at to is_said sent fresh = by (said_by (record { lab = lab; H = H; n = n; m = m; said = said }) a b at to is_said) where
   by : SaidBy lab H n m a b said → IsPromised lab H q m a b x later said
   by (between_clients c d same far w) = subst (λ (z : Node). IsPromised lab H q m z b x later said) (sym same)
       (subst (λ (z : Node). IsPromised lab H q m (client c) z x later said) (sym far)

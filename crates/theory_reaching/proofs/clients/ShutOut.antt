@@ -43,7 +43,7 @@ module _ (the : Both)
   shut_before : Enters H (now H) → ⊥
   unfolding is_led_to
   shut_before enters =
-      let goes = to_client lab are.rules H m d (embedded own) (embedded other) [] are.to
+      let goes = to_client lab are.rules H m [] are.to
       (is_let_in lab H (now H) (embedded own) (embedded other) m d are.rules are.chained there enters) in
       false≢true (sym led ∙ ap (ends_at m) goes ∙ same_number m)
 
@@ -55,8 +55,19 @@ module _ (the : Both)
   }
 
   stay : AllByRecursion (λ (k : ℕ). nat_history lab k (q ∷ H) ≡ nat_history lab k H) (nats_of lab d)
-  stay = all_stay lab H q n c d ways_apart (did the).node (ap (option_and_then as_client) are.at)
-      (keeps_to_its_way lab H q are.grown.0) (frame lab H q).nats
+  stay = all_stay (record {
+    lab = lab;
+    H = H;
+    q = q;
+    n = n;
+    c = c;
+    d = d;
+    apart = ways_apart;
+    node = (did the).node;
+    there = ap (option_and_then as_client) are.at;
+    keeps = keeps_to_its_way lab H q are.grown.0;
+    nats = (frame lab H q).nats;
+  })
       (each_so (no_nat lab n (client c) are.at refl) (nats_of lab d) (receiver_end the).nats)
 
   at_first : IsShutOff (q ∷ H)
@@ -83,9 +94,9 @@ module _ (the : Both)
 
     -- it comes to nobody
     to_no_node : (i : ℕ) (a : Node) → route lab G (now G) y ≡ reaches i a → ⊥
-    to_no_node i a goes = by (comes_or_not lab G g.1 (asks_at lab d) (embedded own)
+    to_no_node i a goes = by (comes_or_not (record { lab = lab; H = G; g = g.1; src = asks_at lab d; other = embedded own })
         (embedded other) d server_in) where
-          by : Comes lab G g.1 (asks_at lab d) (embedded own) (embedded other) d → ⊥
+          by : Comes (record { lab = lab; H = G; g = g.1; src = asks_at lab d; other = embedded own }) (embedded other) d → ⊥
           by (let_in_too enters) = shut.shut (enters_by_its_way lab G (now G) (embedded own) (embedded other) d are.chained enters)
           by (shut_there j out) = false≢true (ap is_reached (sym (to_none lab are.rules G (embedded own) (embedded other) x j out)
               ∙ ap (route lab G (now G)) (sym is) ∙ goes))
@@ -99,7 +110,7 @@ module _ (the : Both)
       stays = record {
         shut = λ enters. shut.shut (entered_before lab G (p ∷ G) (now G) (embedded own) (nats_of lab d) d.inside (embedded other)
             (each_so (λ j _. miss.nats j) (nats_of lab d) (receiver_end the).nats) (subst (Enters (p ∷ G)) miss.moment enters));
-        way = still_in lab G p (record {
+        way = still_in {lab = lab} G {r = p} (record {
           follows = g.0;
           calm = nats_left lab p miss.still miss.lasting;
           moment = miss.moment;

@@ -44,7 +44,7 @@ is_shut a = past_opening (λ (r : Reach). is_stale r ≡ true → IsStale a) a (
 pub stale_is_kept : KeepsBetweenClients word.Stale
 unfolding two_clients
 stale_is_kept lab H is chained q later n m c d x g at to said sent fresh =
-    two (of_clients lab H n m word.Stale IsStale (λ a w. is_shut a (ap is_stale w)) c d at to said) where
+    two (of_clients (record { lab = lab; H = H; n = n; m = m; said = word.Stale }) IsStale (λ a w. is_shut a (ap is_stale w)) c d at to said) where
       two : IsStale (two_clients lab H n m c d) → SomeBrings m (client d) x later → ⊥
       two s =
           let two_parts = and_parts (two_clients lab H n m c d).fresh (not (two_clients lab H n m c d).let_in) s.shut in

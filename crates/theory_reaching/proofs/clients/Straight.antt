@@ -33,8 +33,14 @@ module _ (the : Both) where
 
     pub made_one : q.made ≡ sent (udp (embedded from) (embedded to) x) ∷ []
     made_one = (leave the (send (embedded to) x ∷ []) sends (
-      elsewhere lab are.rules (a_side the) (b_side the)
-          (sender_end the) (receiver_end the) (differ the),
+      elsewhere (record {
+        lab = lab;
+        is = are.rules;
+        a = a_side the;
+        b = b_side the;
+        an = sender_end the;
+        bn = receiver_end the;
+      }) (differ the),
       tt,
     )).made
 

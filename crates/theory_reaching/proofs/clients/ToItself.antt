@@ -54,9 +54,9 @@ unfolding two_clients
 self_is_kept lab H is chained q later n m c d x g at to said sent fresh =
     let own = address_at lab H n in
     let same = same_ip6-true own (address_at lab H m)
-    (of_clients lab H n m word.OneAddress (λ a. a.same_address ≡ true) (λ a w. one_address a (ap is_self w)) c d at to said) in
+    (of_clients (record { lab = lab; H = H; n = n; m = m; said = word.OneAddress }) (λ a. a.same_address ≡ true) (λ a w. one_address a (ap is_self w)) c d at to said) in
     let there = earlier lab later (q ∷ H) g in
-    let taken = host_hands lab H q n (client c) own (address_at lab H m) x at there.0 sent.handed in
+    let taken = host_hands H at there.0 sent.handed in
     let silent = sends_nothing (client_settings lab.topology c) (journal n H) (now H) x (words lab n H) sent.handed.packet.packet
     (sent.handed.packet.destination ∙ sym same ∙ sym sent.handed.packet.source) in
     let nothing : q.made ≡ [] = taken.did.made

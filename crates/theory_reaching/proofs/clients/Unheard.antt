@@ -42,10 +42,23 @@ pub record HearsNothing (j : Journal) (n : ℕ) (peer : Ip6) (e : Entry) : Type 
   pub late : e.step.late ≡ []
   pub full : has_room (mentions (e ∷ j.entries)) n peer ≡ false
 
+-- what a client reads from a peer for which it has no room
+pub record FullOfPeers : Type 0 where
+  pub s : Settings
+  pub j : Journal
+  pub n : ℕ
+  pub from : Ep
+  pub x : List ℕ
+  pub v : Value
+  pub reads : ReadsPayload v x
+  pub teredo : is_teredo v.packet.src ≡ true
+  pub full : has_room (mentions j.entries) n v.packet.src ≡ false
+  pub no_advert : (is_from_server s from && is_advert (message_in v.packet)) ≡ false
+
 -- of a datagram that reads as v, from a client for which there is no room
-module _ (s : Settings) (j : Journal) (n : ℕ) (from : Ep) (x : List ℕ) (v : Value) (reads : ReadsPayload v x)
-    (teredo : is_teredo v.packet.src ≡ true) (full : has_room (mentions j.entries) n v.packet.src ≡ false)
-    (no_advert : (is_from_server s from && is_advert (message_in v.packet)) ≡ false) where
+module _ (full_of_peers : FullOfPeers) where
+  open full_of_peers use {s, j, n, from, x, v, reads, teredo, full, no_advert}
+
   abbrev peer : Ip6
   peer = v.packet.src
 
@@ -67,7 +80,7 @@ module _ (s : Settings) (j : Journal) (n : ℕ) (from : Ep) (x : List ℕ) (v : 
   alone w step = entry n (arrived from x) (packet_in x) (Some peer) w step
 
   is_entry : (w : Words) → client_in s j n from x w ≡ alone w (just row)
-  is_entry w = entry_here s j n from x v reads w row refl ∙ ap (alone w) (is_quiet.step s (standing_at s j n peer) from x v w)
+  is_entry w = entry_here s j n from x v reads w {f = row} refl ∙ ap (alone w) (is_quiet.step s (standing_at s j n peer) from x v w)
 
   still_full : (w : Words) → has_room (mentions (alone w (just row) ∷ j.entries)) n peer ≡ false
   still_full w =

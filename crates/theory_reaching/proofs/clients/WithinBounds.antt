@@ -70,7 +70,7 @@ module _ (c d : ClientNode) (the : NextPacket (client c) (client d)) where
         → BringsWithin most m (client d) x later
     by short many (inl complete) = whole complete
     by short many (inr one) =
-        let taken = host_hands lab H q n (client c) (address_at lab H n) (address_at lab H m) x at there.0 sent.handed in
+        let taken = host_hands H at there.0 sent.handed in
         let on = goes_on (record { lab = lab; H = H; r = q; n = n; c = c; x = x; taken = taken; grown = there }) later g fresh
         short one.0 one.1 one.2 one.3 in
         absurd (too_many (length later) (well (on.next ∷ later) on.grown on.fresh).0 many)
@@ -95,7 +95,7 @@ module _ (c d : ClientNode) (the : NextPacket (client c) (client d)) where
   five e = in_time 5 (λ l grown f. ((carried (ap is_late e) l grown f).few, (carried (ap is_late e) l grown f).arrives))
 
 pub four_is_kept : KeepsItsPromise word.Within4
-four_is_kept lab H is chained q later n m a b x g at to said sent fresh = by (said_by lab H n m word.Within4 a b at to said) where
+four_is_kept lab H is chained q later n m a b x g at to said sent fresh = by (said_by (record { lab = lab; H = H; n = n; m = m; said = word.Within4 }) a b at to said) where
   the : NextPacket a b
   the = record { lab = lab; H = H; is = is; chained = chained; q = q; later = later; n = n; m = m; x = x; g = g; at = at; to = to; sent = sent; fresh = fresh }
 
@@ -105,7 +105,7 @@ four_is_kept lab H is chained q later n m a b x g at to said sent fresh = by (sa
   by (from_native h c r same other through e) = absurd (never_from (relayed lab H m c h r) (ap is_four e))
 
 pub five_is_kept : KeepsItsPromise word.Within5
-five_is_kept lab H is chained q later n m a b x g at to said sent fresh = by (said_by lab H n m word.Within5 a b at to said) where
+five_is_kept lab H is chained q later n m a b x g at to said sent fresh = by (said_by (record { lab = lab; H = H; n = n; m = m; said = word.Within5 }) a b at to said) where
   the : NextPacket a b
   the = record { lab = lab; H = H; is = is; chained = chained; q = q; later = later; n = n; m = m; x = x; g = g; at = at; to = to; sent = sent; fresh = fresh }
 

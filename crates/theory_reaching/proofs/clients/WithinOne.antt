@@ -78,7 +78,7 @@ module _ (c d : ClientNode) (the : NextPacket (client c) (client d)) where
       in_time (record { lab = lab; H = H; q = q; n = n; m = m; c = c; d = d; x = x; are = are }) s.quick s.let_in s.heard later g fresh
 
 pub one_is_kept : KeepsItsPromise word.Within1
-one_is_kept lab H is chained q later n m a b x g at to said sent fresh = by (said_by lab H n m word.Within1 a b at to said) where
+one_is_kept lab H is chained q later n m a b x g at to said sent fresh = by (said_by (record { lab = lab; H = H; n = n; m = m; said = word.Within1 }) a b at to said) where
   the : NextPacket a b
   the = record { lab = lab; H = H; is = is; chained = chained; q = q; later = later; n = n; m = m; x = x; g = g; at = at; to = to; sent = sent; fresh = fresh }
 

@@ -34,9 +34,24 @@ pub record AnswersOnly (j : Journal) (n : ℕ) (own peer : Ip6) (at : Ep) (e : E
   pub lists : ((e.step.sends ≡ []) × ((mention e).bearing.touches ≡ false))
       ⊎ ((has_room (mentions j.entries) n peer ≡ true) × ((mention e).bearing.touches ≡ true))
 
+-- what a client reads from its server, with an origin
+pub record WithOrigin : Type 0 where
+  pub s : Settings
+  pub j : Journal
+  pub n : ℕ
+  pub from : Ep
+  pub x : List ℕ
+  pub v : Value
+  pub reads : ReadsPayload v x
+  pub server : is_from_server s from ≡ true
+  pub no_advert : is_advert (message_in v.packet) ≡ false
+  pub at : Ep
+  pub origin : origin_in v.lead ≡ Some at
+
 -- of a datagram of its server that reads as v, no advertisement, of this origin
-module _ (s : Settings) (j : Journal) (n : ℕ) (from : Ep) (x : List ℕ) (v : Value) (reads : ReadsPayload v x)
-    (server : is_from_server s from ≡ true) (no_advert : is_advert (message_in v.packet) ≡ false) (at : Ep) (origin : origin_in v.lead ≡ Some at) where
+module _ (with_origin : WithOrigin) where
+  open with_origin use {s, j, n, from, x, v, reads, server, no_advert, at, origin}
+
   abbrev peer : Ip6
   peer = v.packet.src
 
@@ -110,4 +125,4 @@ module _ (s : Settings) (j : Journal) (n : ℕ) (from : Ep) (x : List ℕ) (v : 
   }
 
   pub answers : (w : Words) → AnswersOnly j n v.packet.dst peer at (client_in s j n from x w)
-  answers w = subst (AnswersOnly j n v.packet.dst peer at) (sym (entry_here s j n from x v reads w row refl)) (answers_so w)
+  answers w = subst (AnswersOnly j n v.packet.dst peer at) (sym (entry_here s j n from x v reads w {f = row} refl)) (answers_so w)

@@ -35,10 +35,23 @@ pub record IsDeaf (j : Journal) (n : ℕ) (peer : Ip6) (e : Entry) : Type 0 wher
   pub late : e.step.late ≡ []
   pub closed : IsClosed (is_barred n (known (mentions (e ∷ j.entries)) n peer)) (has_room (mentions (e ∷ j.entries)) n peer)
 
+-- what a client reads from its server of a peer to which it is closed
+pub record ToDeafClient : Type 0 where
+  pub s : Settings
+  pub j : Journal
+  pub n : ℕ
+  pub from : Ep
+  pub x : List ℕ
+  pub v : Value
+  pub reads : ReadsPayload v x
+  pub server : is_from_server s from ≡ true
+  pub no_advert : is_advert (message_in v.packet) ≡ false
+  pub closed : IsClosed (is_barred n (known (mentions j.entries) n v.packet.src)) (has_room (mentions j.entries) n v.packet.src)
+
 -- of a datagram of its server that reads as v, where the client is closed to v's source
-module _ (s : Settings) (j : Journal) (n : ℕ) (from : Ep) (x : List ℕ) (v : Value) (reads : ReadsPayload v x)
-    (server : is_from_server s from ≡ true) (no_advert : is_advert (message_in v.packet) ≡ false)
-    (closed : IsClosed (is_barred n (known (mentions j.entries) n v.packet.src)) (has_room (mentions j.entries) n v.packet.src)) where
+module _ (to_deaf_client : ToDeafClient) where
+  open to_deaf_client use {s, j, n, from, x, v, reads, server, no_advert, closed}
+
   abbrev peer : Ip6
   peer = v.packet.src
 
@@ -54,7 +67,7 @@ module _ (s : Settings) (j : Journal) (n : ℕ) (from : Ep) (x : List ℕ) (v : 
   alone w step = entry n (arrived from x) (packet_in x) (Some peer) w step
 
   is_entry : (w : Words) → client_in s j n from x w ≡ alone w (just row)
-  is_entry w = entry_here s j n from x v reads w row refl ∙ ap (alone w) (is_idle.step s (standing_at s j n peer) from x v w)
+  is_entry w = entry_here s j n from x v reads w {f = row} refl ∙ ap (alone w) (is_idle.step s (standing_at s j n peer) from x v w)
 
   abbrev Closed : List Mention → Type 0
   Closed ms = IsClosed (is_barred n (known ms n peer)) (has_room ms n peer)

@@ -104,11 +104,25 @@ pub record IsKeptBack (j : Journal) (n : ℕ) (at : Ep) (peer : Ip6) (e : Entry)
   pub closed : Wary (mentions (e ∷ j.entries)) n peer
   pub mistrusted : is_trusted_at at (known (mentions (e ∷ j.entries)) n peer) ≡ false
 
+-- what a client reads from a native host of which it is wary
+pub record ToWaryClient : Type 0 where
+  pub s : Settings
+  pub j : Journal
+  pub n : ℕ
+  pub from : Ep
+  pub x : List ℕ
+  pub v : Value
+  pub reads : ReadsPayload v x
+  pub no_server : is_from_server s from ≡ false
+  pub native : is_teredo v.packet.src ≡ false
+  pub no_reply : is_echo_reply (message_in v.packet) ≡ false
+  pub closed : Wary (mentions j.entries) n v.packet.src
+  pub mistrusted : is_trusted_at from (known (mentions j.entries) n v.packet.src) ≡ false
+
 -- of a datagram that reads as v, no echo reply, from elsewhere than the client's server
-module _ (s : Settings) (j : Journal) (n : ℕ) (from : Ep) (x : List ℕ) (v : Value) (reads : ReadsPayload v x)
-    (no_server : is_from_server s from ≡ false) (native : is_teredo v.packet.src ≡ false) (no_reply : is_echo_reply (message_in v.packet) ≡ false)
-    (closed : Wary (mentions j.entries) n v.packet.src)
-    (mistrusted : is_trusted_at from (known (mentions j.entries) n v.packet.src) ≡ false) where
+module _ (to_wary_client : ToWaryClient) where
+  open to_wary_client use {s, j, n, from, x, v, reads, no_server, native, no_reply, closed, mistrusted}
+
   abbrev peer : Ip6
   peer = v.packet.src
 
@@ -126,7 +140,7 @@ module _ (s : Settings) (j : Journal) (n : ℕ) (from : Ep) (x : List ℕ) (v : 
   alone w step = entry n (arrived from x) (packet_in x) (Some peer) w step
 
   is_entry : (w : Words) → client_in s j n from x w ≡ alone w (just row)
-  is_entry w = entry_here s j n from x v reads w row refl ∙ ap (alone w) (is_still.step s (standing_at s j n peer) from x v w)
+  is_entry w = entry_here s j n from x v reads w {f = row} refl ∙ ap (alone w) (is_still.step s (standing_at s j n peer) from x v w)
 
   abbrev its : Words → Mention
   its w = mention (alone w (just row))

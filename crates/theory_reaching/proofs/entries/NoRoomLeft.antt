@@ -94,12 +94,12 @@ module _ (e : Mention) (j : List Mention) (n : ℕ) (p : Ip6) (about : e.peer �
   -- lists no fewer than before, and one more where p wasn't listed
   no_fewer : length (listed j n) ≤ length (listed (e ∷ j) n)
   unfolding listed
-  no_fewer = let all = one_more (λ (q : Ip6). is_listed q n (e ∷ j)) was p (others_stay e j n p about touches) (touched j) (touched_once j) in
+  no_fewer = let all = one_more (λ (q : Ip6). is_listed q n (e ∷ j)) was p (others_stay e j n about touches) (touched j) (touched_once j) in
       omega (arith, all, now_there)
 
   one_listed : is_listed p n j ≡ false → 1 + length (listed j n) ≤ length (listed (e ∷ j) n)
   unfolding listed
-  one_listed unlisted = let all = as_many_without (λ (q : Ip6). is_listed q n (e ∷ j)) was p (others_stay e j n p about touches) unlisted (touched j) in
+  one_listed unlisted = let all = as_many_without (λ (q : Ip6). is_listed q n (e ∷ j)) was p (others_stay e j n about touches) unlisted (touched j) in
       omega (arith, all, now_there)
 
   -- so where there was no room for another one there is none
@@ -107,7 +107,7 @@ module _ (e : Mention) (j : List Mention) (n : ℕ) (p : Ip6) (about : e.peer �
   unfolding has_room
   full_still v apart full =
       let parts = or_parts (is_listed v n j) (nat_lt (length (listed j n)) PEERS_MAX) full in
-      ap (λ (b : Bool). b || nat_lt (length (listed (e ∷ j) n)) PEERS_MAX) (others_stay e j n p about touches v apart ∙ parts.0)
+      ap (λ (b : Bool). b || nat_lt (length (listed (e ∷ j) n)) PEERS_MAX) (others_stay e j n about touches v apart ∙ parts.0)
       ∙ as_full (length (listed j n)) (length (listed (e ∷ j) n)) no_fewer parts.1 where
         as_full : (m k : ℕ) → m ≤ k → nat_lt m 256 ≡ false → nat_lt k 256 ≡ false
         as_full m k le e = grind (arith, nat_tests, le, e)
@@ -117,7 +117,7 @@ module _ (e : Mention) (j : List Mention) (n : ℕ) (p : Ip6) (about : e.peer �
       → has_room (e ∷ j) n v ≡ false
   unfolding has_room
   no_room_left v apart few room both =
-      by (is_listed p n j) (is_listed v n j) refl (others_stay e j n p about touches v apart) room both where
+      by (is_listed p n j) (is_listed v n j) refl (others_stay e j n about touches v apart) room both where
         too_many : (b : Bool) → is_listed v n (e ∷ j) ≡ b → b ≡ false → 256 ≤ length (listed (e ∷ j) n)
             → (is_listed v n (e ∷ j) || nat_lt (length (listed (e ∷ j) n)) PEERS_MAX) ≡ false
         too_many b is none full = ap (λ (c : Bool). c || nat_lt (length (listed (e ∷ j) n)) PEERS_MAX) (is ∙ none) ∙ grind (arith, nat_tests, full)

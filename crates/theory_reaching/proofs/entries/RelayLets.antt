@@ -27,7 +27,7 @@ module _ (s : RelaySettings) (j : List Entry) (n : ℕ) (from : Ep) (x : List �
   gives_on none =
       let f = relay_reception_row (seen_here s j n from x v reads) in
       let lets = lets_none (relay_standing_at j n v.packet.src) x v f in
-      subst GivesOn (sym (entry_in s j n from x v reads f refl)) (record { sends = lets.sends none; six = lets.six; input = refl; moment = refl })
+      subst GivesOn (sym (entry_in s j n from x v reads {f = f} refl)) (record { sends = lets.sends none; six = lets.six; input = refl; moment = refl })
 
 -- whom a relay trusts it trusts on, whatever entry comes
 pub trust_stays : (e : Entry) (j : List Entry) (n : ℕ) (p : Ip6) → e.moment ≡ n → is_some (known (relay_mentions j) n p).trusted ≡ true

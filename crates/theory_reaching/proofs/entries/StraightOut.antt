@@ -9,8 +9,22 @@ use Rattle.theory_reaching.proofs.Tests.{never}
 abbrev pub IsOneOrNone : Ep → List ℕ → List Send → Type 0
 IsOneOrNone D x xs = (xs ≡ []) ⊎ (xs ≡ send D x ∷ [])
 
-module _ (s : Settings) (a : Standing) (x : List ℕ) (to : Ip6) (w : Words) (g : Given) (D : Ep) (quick : (g.fresh || g.cone) ≡ true)
-    (trusts : (at : Ep) → (known_in a).trusted ≡ Some at → at ≡ D) (its : g.fresh ≡ false → embedded to ≡ D) where
+-- a packet that goes to one endpoint at once, or not at all
+pub record ToQuickPeer : Type 0 where
+  pub s : Settings
+  pub a : Standing
+  pub x : List ℕ
+  pub to : Ip6
+  pub w : Words
+  pub g : Given
+  pub D : Ep
+  pub quick : (g.fresh || g.cone) ≡ true
+  pub trusts : (at : Ep) → (known_in a).trusted ≡ Some at → at ≡ D
+  pub its : g.fresh ≡ false → embedded to ≡ D
+
+module _ (to_quick_peer : ToQuickPeer) where
+  open to_quick_peer use {s, a, x, to, w, g, D, quick, trusts, its}
+
   abbrev Sends : Fate → Type 0
   Sends f = IsOneOrNone D x (transmission_step s a x to w f).sends
 
@@ -75,14 +89,37 @@ module _ (s : Settings) (j : Journal) (n : ℕ) (x : List ℕ) (w : Words) (is_o
   sends_straight = subst (λ (a : Standing). IsOneOrNone D x
       (transmission_step s a x (fields_in x).dst w (transmission_row (given_of s a (is_packet x) (fields_in x)))).sends)
       (sym (stands_for s j n x is_one))
-      (all_sent s (standing_at s j n (fields_in x).dst) x (fields_in x).dst w (given_of s (standing_at s j n (fields_in x).dst) (is_packet x) (fields_in x))
-      D quick trusts its)
+      (all_sent (record {
+        s = s;
+        a = standing_at s j n (fields_in x).dst;
+        x = x;
+        to = (fields_in x).dst;
+        w = w;
+        g = given_of s (standing_at s j n (fields_in x).dst) (is_packet x) (fields_in x);
+        D = D;
+        quick = quick;
+        trusts = trusts;
+        its = its;
+      }))
 
 -- A TEST
 
+-- a packet to a native host that isn't fresh
+pub record ToStaleNative : Type 0 where
+  pub s : Settings
+  pub a : Standing
+  pub x : List ℕ
+  pub to : Ip6
+  pub w : Words
+  pub g : Given
+  pub stale : g.fresh ≡ false
+  pub plain : g.cone ≡ false
+  pub native : is_teredo to ≡ false
+
 -- of a packet for a native host that isn't fresh a client sends one test, or nothing
-module _ (s : Settings) (a : Standing) (x : List ℕ) (to : Ip6) (w : Words) (g : Given) (stale : g.fresh ≡ false) (plain : g.cone ≡ false)
-    (native : is_teredo to ≡ false) where
+module _ (to_stale_native : ToStaleNative) where
+  open to_stale_native use {s, a, x, to, w, g, stale, plain, native}
+
   abbrev its_test : List ℕ
   its_test = test_bytes (own_address a.qualification) to (nonce_from w)
 
@@ -109,5 +146,14 @@ module _ (s : Settings) (j : Journal) (n : ℕ) (x : List ℕ) (w : Words) (is_o
   sends_test = subst (λ (a : Standing). IsOneOrNone (server_ep s.primary) (test_bytes (own_address (qualification s j)) (fields_in x).dst (nonce_from w))
       (transmission_step s a x (fields_in x).dst w (transmission_row (given_of s a (is_packet x) (fields_in x)))).sends)
       (sym (stands_for s j n x is_one))
-      (test_sent s (standing_at s j n (fields_in x).dst) x (fields_in x).dst w (given_of s (standing_at s j n (fields_in x).dst) (is_packet x) (fields_in x))
-      stale (and_left (is_teredo (fields_in x).dst) (has_cone (fields_in x).dst) native) native)
+      (test_sent (record {
+        s = s;
+        a = standing_at s j n (fields_in x).dst;
+        x = x;
+        to = (fields_in x).dst;
+        w = w;
+        g = given_of s (standing_at s j n (fields_in x).dst) (is_packet x) (fields_in x);
+        stale = stale;
+        plain = and_left (is_teredo (fields_in x).dst) (has_cone (fields_in x).dst) native;
+        native = native;
+      }))

@@ -63,4 +63,4 @@ module _ (s : RelaySettings) (j : List Entry) (n : ℕ) (x : List ℕ) (is_one :
   }
 
   pub relays_it : RelaysIt j n x (relay_six s j n x)
-  relays_it = subst (RelaysIt j n x) (sym (entry_six s j n x is_one row refl)) relays_it_so
+  relays_it = subst (RelaysIt j n x) (sym (entry_six (record { s = s; j = j; n = n; x = x; is_one = is_one }) row refl)) relays_it_so

@@ -15,7 +15,21 @@ pub data DrawsTest (its_test : Send) (nonce : ℕ) (e : Entry) : Type 0 where
 
 -- THE TABLE
 
-module _ (s : Settings) (a : Standing) (x : List ℕ) (to : Ip6) (w : Words) (g : Given) (n : ℕ) (packet : Option (List ℕ)) (peer : Option Ip6) where
+-- a packet for which a test is tried
+pub record TriedTest : Type 0 where
+  pub s : Settings
+  pub a : Standing
+  pub x : List ℕ
+  pub to : Ip6
+  pub w : Words
+  pub g : Given
+  pub n : ℕ
+  pub packet : Option (List ℕ)
+  pub peer : Option Ip6
+
+module _ (tried_test : TriedTest) where
+  open tried_test use {s, a, x, to, w, g, n, packet, peer}
+
   -- the entry of what was done
   abbrev of_step : Step → Entry
   of_step z = entry n (given x) packet peer w z
@@ -92,7 +106,7 @@ module _ (s : Settings) (j : Journal) (n : ℕ) (x : List ℕ) (w : Words) (is_o
       → (bearing_of (client_out s j n x w).step.fate (client_out s j n x w)).nonce ≡ None
   unfolding client_out transmission.transmission transmission.given standing_at
   draws_none_of_fresh fresh = subst (λ (a : Standing). (bearing_of (of_standing a).step.fate (of_standing a)).nonce ≡ None) (sym (stands_for s j n x is_one))
-      (draws_none s here x (fields_in x).dst w (given_of s here (is_packet x) (fields_in x)) n (packet_given x) (destination_in x) fresh)
+      (draws_none (record { s = s; a = here; x = x; to = (fields_in x).dst; w = w; g = given_of s here (is_packet x) (fields_in x); n = n; packet = packet_given x; peer = destination_in x }) fresh)
 
   pub draws_its_test : is_teredo (fields_in x).dst ≡ false → is_fresh n (known (mentions j.entries) n (fields_in x).dst) ≡ false
       → DrawsTest (send (server_ep s.primary) (test_bytes (own_address (qualification s j)) (fields_in x).dst (nonce_from w))) (nonce_from w)
@@ -100,5 +114,5 @@ module _ (s : Settings) (j : Journal) (n : ℕ) (x : List ℕ) (w : Words) (is_o
   unfolding client_out transmission.transmission transmission.given standing_at
   draws_its_test native stale = subst (λ (a : Standing). DrawsTest (send (server_ep s.primary)
       (test_bytes (own_address (qualification s j)) (fields_in x).dst (nonce_from w))) (nonce_from w) (of_standing a)) (sym (stands_for s j n x is_one))
-      (draws_test s here x (fields_in x).dst w (given_of s here (is_packet x) (fields_in x)) n (packet_given x) (destination_in x) stale
+      (draws_test (record { s = s; a = here; x = x; to = (fields_in x).dst; w = w; g = given_of s here (is_packet x) (fields_in x); n = n; packet = packet_given x; peer = destination_in x }) stale
       (and_left (is_teredo (fields_in x).dst) (has_cone (fields_in x).dst) native) native)

@@ -16,4 +16,4 @@ module _ (s : Settings) (j : Journal) (n : ℕ) (at : Ep) (x : List ℕ) (goes :
   is_there = trusted_at at (known (mentions j.entries) n to).trusted goes.trusted
 
   pub sends_there : (w : Words) → (client_out s j n x w).step.sends ≡ send at x ∷ []
-  sends_there = sent_there s j n x goes.to_host.one at (goes_out s j n x goes.to_host) goes.fresh is_there
+  sends_there = sent_there s j n x goes.to_host.one (goes_out s j n x goes.to_host) goes.fresh is_there

@@ -82,9 +82,22 @@ keeps_on e ms n p from at trusts queues = keeps e ms n p at (Keeps from) (λ q h
   waits_on (e.bearing.hears || e.bearing.gives_up) e.bearing.queues q.waiting queues h.1,
 ))
 
-module _ (s : Settings) (j : Journal) (n : ℕ) (from : Ep) (x : List ℕ) (v : Value) (reads : ReadsPayload v x)
-    (no_server : is_from_server s from ≡ false) (trusts_it : is_trusted_at from (known (mentions j.entries) n v.packet.src) ≡ true)
-    (none : (known (mentions j.entries) n v.packet.src).waiting ≡ []) where
+-- what a client reads from an endpoint that it trusts, while nothing waits
+pub record FromTrusted : Type 0 where
+  pub s : Settings
+  pub j : Journal
+  pub n : ℕ
+  pub from : Ep
+  pub x : List ℕ
+  pub v : Value
+  pub reads : ReadsPayload v x
+  pub no_server : is_from_server s from ≡ false
+  pub trusts_it : is_trusted_at from (known (mentions j.entries) n v.packet.src) ≡ true
+  pub none : (known (mentions j.entries) n v.packet.src).waiting ≡ []
+
+module _ (from_trusted : FromTrusted) where
+  open from_trusted use {s, j, n, from, x, v, reads, no_server, trusts_it, none}
+
   abbrev peer : Ip6
   peer = v.packet.src
 
@@ -133,4 +146,4 @@ module _ (s : Settings) (j : Journal) (n : ℕ) (from : Ep) (x : List ℕ) (v : 
   }
 
   pub stays_trusted : (w : Words) → StaysTrusted (client_in s j n from x w)
-  stays_trusted w = subst StaysTrusted (sym (entry_here s j n from x v reads w row refl)) (stays_so w)
+  stays_trusted w = subst StaysTrusted (sym (entry_here s j n from x v reads w {f = row} refl)) (stays_so w)

@@ -68,17 +68,26 @@ module _ (p : Trio) (is : IsTrio p) (no_reply : NoReply p) where
   -- THE NODES
 
   relay_client : p.k ≡ p.a.n → ⊥
-  relay_client = two_kinds lab.topology p.k p.a.n (relay r) (client p.a.c) is_relay_node is.relay_there is.end.there refl refl
+  relay_client = two_kinds lab.topology {i = p.k} {j = p.a.n} is_relay_node is.relay_there is.end.there refl refl
 
   native_client : p.m ≡ p.a.n → ⊥
-  native_client = two_kinds lab.topology p.m p.a.n (native h) (client p.a.c) is_native_node is.native_there is.end.there refl refl
+  native_client = two_kinds lab.topology {i = p.m} {j = p.a.n} is_native_node is.native_there is.end.there refl refl
 
   native_relay : p.m ≡ p.k → ⊥
-  native_relay = two_kinds lab.topology p.m p.k (native h) (relay r) is_native_node is.native_there is.relay_there refl refl
+  native_relay = two_kinds lab.topology {i = p.m} {j = p.k} is_native_node is.native_there is.relay_there refl refl
 
   -- A DELIVERY
 
-  module _ (H : List Full) (t : Full) (this : OneDelivery lab) (sound : HasNoFault this.p) (up : TrustEachOther this.G) where
+  -- a delivery by which nothing came, while client and relay trust each other
+  pub record TrustingDelivery : Type 0 where
+    pub H : List Full
+    pub t : Full
+    pub this : OneDelivery lab
+    pub sound : HasNoFault this.p
+    pub up : TrustEachOther this.G
+
+  module _ (trusting : TrustingDelivery) where
+    open trusting use {H, t, this, sound, up}
     open this use {G, serial, y, g, delivered, at}
 
     abbrev q : Full
@@ -103,7 +112,7 @@ module _ (p : Trio) (is : IsTrio p) (no_reply : NoReply p) where
     made_item u same = one_of IsMadeItem (wire G) serial u (there same) (wire_is_made lab G is.rules g.1).wire
 
     still_open : IsCalmNext lab G q → IsOpen p (q ∷ G)
-    still_open next = still_in lab G q next r.at (nats_of lab p.a.c) p.a.c.inside (embedded own) up.opened
+    still_open next = still_in G next r.at (nats_of lab p.a.c) p.a.c.inside (embedded own) up.opened
 
     -- A PACKET OF THE CLIENT, AT THE RELAY
 
@@ -140,7 +149,7 @@ module _ (p : Trio) (is : IsTrio p) (no_reply : NoReply p) where
             ∙ ap (λ (i : Input). six_made i passed.step.six) gives.input
             ∙ ap (λ (o : Option Span). six_made (arrived (embedded own) w) o) none)) tt
         by (inr six_is) = subst (λ (ms : List Made). AllByRecursion IsAfter (filter_map item_in ms)) (sym (
-            relay_passes lab G q p.k r passed at_relay.did sound (embedded own) w gives.sends six_is gives.input)) (to_host w to refl, tt)
+            relay_passes at_relay.did sound (embedded own) w gives.sends six_is gives.input)) (to_host w to refl, tt)
 
       at_its_relay : Result
       at_its_relay = record {
@@ -259,7 +268,7 @@ module _ (p : Trio) (is : IsTrio p) (no_reply : NoReply p) where
         node = client p.a.c;
         item = udp r.at (embedded own) z;
         at = there same;
-        goes = to_client lab is.rules G p.a.n p.a.c r.at (embedded own) z is.end.there
+        goes = to_client lab is.rules G p.a.n z is.end.there
             (is_let_in lab G (now G) r.at (embedded own) p.a.n p.a.c is.rules is.chained is.client_there
             (enters_along lab G g.1 r.at (nats_of lab p.a.c) p.a.c.inside (embedded own) up.opened));
       })
@@ -283,8 +292,9 @@ module _ (p : Trio) (is : IsTrio p) (no_reply : NoReply p) where
       none : (known (mentions (journal p.a.n G).entries) (now G) (fields_in z).src).waiting ≡ []
       none = ap (λ (d : Ip6). (known (mentions (journal p.a.n G).entries) (now G) d).waiting) echo.source ∙ up.client_trusts.nothing_waits
 
-      stays : StaysTrusted us (journal p.a.n G) (now G) r.at z (value_written None None (fields_in z)) client_reads no_server trusted none got
-      stays = stays_trusted us (journal p.a.n G) (now G) r.at z (value_written None None (fields_in z)) client_reads no_server trusted none (words lab p.a.n G)
+      stays : StaysTrusted (record { s = us; j = journal p.a.n G; n = now G; from = r.at; x = z; v = value_written None None (fields_in z); reads = client_reads; no_server = no_server; trusts_it = trusted; none = none }) got
+      stays = stays_trusted (record { s = us; j = journal p.a.n G; n = now G; from = r.at; x = z; v = value_written None None (fields_in z); reads = client_reads; no_server = no_server; trusts_it = trusted; none = none })
+          (words lab p.a.n G)
 
       -- what it hands over is the reply
       no_packet : z ≡ p.x → ⊥

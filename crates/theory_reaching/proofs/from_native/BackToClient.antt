@@ -38,16 +38,24 @@ module _ (the : SentBack) where
 
     -- AT THE CLIENT
 
-    module _ (s : Full) (grown : Grown lab (s ∷ p ∷ G)) (again : s.delivered ≡ Some (suc q.first))
-        (to : slice_get (wire (p ∷ G)) (suc q.first) ≡ Some (udp r.at (embedded own) x))
-        (way : WayIn lab H r.at (nats_of lab c) c.inside (embedded own))
-        (trusted : is_trusted_at r.at (known (mentions (journal n H).entries) (now H) h.six) ≡ true) where
+    -- the relay's datagram is delivered, and the client is reached and trusts it
+    pub record SecondDelivery : Type 0 where
+      pub s : Full
+      pub grown : Grown lab (s ∷ p ∷ G)
+      pub again : s.delivered ≡ Some (suc q.first)
+      pub to : slice_get (wire (p ∷ G)) (suc q.first) ≡ Some (udp r.at (embedded own) x)
+      pub way : WayIn lab H r.at (nats_of lab c) c.inside (embedded own)
+      pub trusted : is_trusted_at r.at (known (mentions (journal n H).entries) (now H) h.six) ≡ true
+
+    module _ (second_delivery : SecondDelivery) where
+      open second_delivery use {s, grown, again, to, way, trusted}
+
       abbrev F : List Full
       F = p ∷ G
 
       way_then : WayIn lab F r.at (nats_of lab c) c.inside (embedded own)
-      way_then = still_in lab G p (next_too the p g sound delivered at) r.at (nats_of lab c) c.inside (embedded own)
-          (still_in lab H q (next the) r.at (nats_of lab c) c.inside (embedded own) way)
+      way_then = still_in G (next_too the p g sound delivered at) r.at (nats_of lab c) c.inside (embedded own)
+          (still_in H (next the) r.at (nats_of lab c) c.inside (embedded own) way)
 
       comes : Arrival lab F s n (client c) (udp r.at (embedded own) x)
       comes = arrival lab F s (suc q.first) (deliveries lab F s (suc q.first) grown again) (record {
@@ -55,7 +63,7 @@ module _ (the : SentBack) where
         node = client c;
         item = udp r.at (embedded own) x;
         at = to;
-        goes = to_client lab are.rules F n c r.at (embedded own) x are.client_is
+        goes = to_client lab are.rules F n x are.client_is
             (is_let_in lab F (now F) r.at (embedded own) n c are.rules are.chained (ap (option_and_then as_client) are.client_is)
             (enters_along lab F grown.1 r.at (nats_of lab c) c.inside (embedded own) way_then));
       })
@@ -105,4 +113,4 @@ module _ (the : SentBack) where
     makes = makes the;
     goes_on = λ p g sound delivered at. ap (filter_map item_in) (sent_on the p g sound delivered at);
   }) n (client c) x
-      (λ s p grown sound delivered at again to. hands_it p grown.1 sound delivered at s grown again to way trusted)
+      (λ s p grown sound delivered at again to. hands_it p grown.1 sound delivered at (record { s = s; grown = grown; again = again; to = to; way = way; trusted = trusted }))

@@ -25,13 +25,13 @@ module _ (the : FromHost) where
   the_three = record { lab = lab; H = H; n = n; m = m; c = c; h = h; r = r; are = from.are }
 
   -- where the relay must ask and gets no answer
-  pub unheard : (hushed : Bool) (plain : hushed ≡ false → has_cone own ≡ false) → unanswered.IsUnheard the_three hushed plain H
-      → unanswered.NoneComeToClient the_three hushed plain q x
-  unheard hushed plain before = unanswered.none_come_to_client the_three hushed plain q x
+  pub unheard : (hushed : Bool) (plain : hushed ≡ false → has_cone own ≡ false) → unanswered.IsUnheard (record { the = the_three; hushed = hushed; plain = plain }) H
+      → unanswered.NoneComeToClient (record { the = the_three; hushed = hushed; plain = plain }) q x
+  unheard hushed plain before = unanswered.none_come_to_client (record { the = the_three; hushed = hushed; plain = plain }) q x
       (from_host.number the)
-      (subst (AllByRecursion (unanswered.IsVain the_three hushed plain)) (sym (from_host.makes the))
+      (subst (AllByRecursion (unanswered.IsVain (record { the = the_three; hushed = hushed; plain = plain }))) (sym (from_host.makes the))
       (unanswered.for_client x refl from.handed.packet.destination, tt))
-      (unanswered.still_unheard the_three hushed plain H q (from_host.next the) m
+      (unanswered.still_unheard (record { the = the_three; hushed = hushed; plain = plain }) H q (from_host.next the) m
       (from_host.did the).node (native_relay the_three)
       (native_client the_three) before)
 
@@ -53,7 +53,7 @@ module _ (the : FromHost) where
   -- nothing waits at a relay that isn't barred for the client, since the latest event is over
   over : IsOver H
   over =
-      let taken = host_hands lab H q m (native h) h.six own x from.are.host_is from.grown.0 from.handed in
+      let taken = host_hands H from.are.host_is from.grown.0 from.handed in
       over_before H q.asked from.grown.0.goes_on (not_handing lab H q.asked taken.verb m x taken.hands)
 
   nothing_of : (ws : List (List ℕ)) → is_none ws ≡ true → OnlyThis x ws

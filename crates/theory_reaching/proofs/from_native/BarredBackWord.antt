@@ -43,7 +43,7 @@ held_back a = by_lines (λ (r : Reach). is_barred_word r ≡ true → IsHeldBack
 pub barred_is_kept : KeepsFromNatives word.Barred
 unfolding relayed
 barred_is_kept lab H is chained q later n m h d x g at to said sent fresh =
-    let s = of_native_and_client lab H n m word.Barred IsHeldBack (λ a w. held_back a (ap is_barred_word w)) h d at to said in
+    let s = of_native_and_client (record { lab = lab; H = H; n = n; m = m; said = word.Barred }) IsHeldBack (λ a w. held_back a (ap is_barred_word w)) h d at to said in
     of s.0 s.1 s.2 where
       there : Grown lab (q ∷ H)
       there = earlier lab later (q ∷ H) g

@@ -73,7 +73,7 @@ module _ (the : FromHost) where
   teredo = ap is_teredo from.handed.packet.destination ∙ (end the_three).address.of.teredo
 
   made : q.made ≡ sent (six (Some k) x) ∷ []
-  made = native_gives lab H q m h x did from.handed.packet.packet small from.handed.packet.source
+  made = native_gives (record { lab = lab; H = H; q = q; m = m; h = h; x = x }) did from.handed.packet.packet small from.handed.packet.source
       (ap is_global6 from.handed.packet.destination ∙ (end the_three).address.of.global) teredo
 
   pub makes : items_of q ≡ six (Some k) x ∷ []

@@ -1,5 +1,5 @@
 -- What a native host's packet makes, and its relay of it, where this trusts the client.
-use Rattle.theory_reaching.proofs.Words.{Arrival, ClientNode, Did, Full, Grown, HasNoFault, Ip6, IsBytes, IsCalmNext, Journal, Lab, List, NativeNode, RelayNode, Some, Strict, [], address_at, ap, arrival, at_same_moment, deliveries, embedded, entry_of, false, fields_in, is_big, is_global6, is_reachable, is_some, is_teredo, items_of, journal, known, length, native, no_ep, node_at, node_is_reached, now, other_journal, refl, relay, relay_mentions, relay_sends, relay_settings, relay_six, same_ip, send, sent, six, slice_get, true, udp, wire, ℕ, ◌∙◌, ◌∷◌, ◌≡◌}
+use Rattle.theory_reaching.proofs.Words.{Arrival, ClientNode, Did, Full, Grown, HasNoFault, Ip6, IsBytes, IsCalmNext, Journal, Lab, List, NativeNode, RelayNode, Some, Strict, [], address_at, ap, arrival, at_same_moment, deliveries, embedded, entry_of, false, fields_in, is_big, is_global6, is_reachable, is_some, is_teredo, items_of, journal, known, length, native, no_ep, node_at, node_is_reached, now, other_journal, refl, relay, relay_mentions, relay_sends, relay_settings, same_ip, send, sent, six, slice_get, true, udp, wire, ℕ, ◌∙◌, ◌∷◌, ◌≡◌}
 use Rattle.teredo_node.specs.Journal.{given}
 use Rattle.theory_first_natives.proofs.tables.RelayGives as gives
 use Rattle.theory_reaching.proofs.from_native.FromHost as from_host
@@ -72,7 +72,7 @@ module _ (the : SentBack) where
 
   -- AT THE RELAY
 
-  for_client : gives.IsForClient (relay_settings lab.topology k r) (journal k (q ∷ H)).entries (now (q ∷ H)) x back.from.handed.packet.packet
+  for_client : gives.IsForClient (record { s = relay_settings lab.topology k r; j = (journal k (q ∷ H)).entries; n = now (q ∷ H); x = x; is_one = back.from.handed.packet.packet })
   for_client =
       let dst = back.from.handed.packet.destination in
       let keeps = native_keeps the_three in
@@ -108,8 +108,8 @@ module _ (the : SentBack) where
     pub sent_on : p.made ≡ sent (udp r.at (embedded own) x) ∷ []
     sent_on =
         let s = relay_settings lab.topology k r in
-        let g = gives.goes_at_once s (journal k G).entries (now G) x back.from.handed.packet.packet for_client trusted in
-        relay_sends lab G p k r (relay_six s (journal k G).entries (now G) x) came.did sound (embedded own) x
+        let g = gives.goes_at_once (record { s = s; j = (journal k G).entries; n = now G; x = x; is_one = back.from.handed.packet.packet }) for_client trusted in
+        relay_sends came.did sound (embedded own) x
         (g.sends ∙ ap (λ (z : Ip6). send (embedded z) x ∷ []) back.from.handed.packet.destination) g.nothing
 
     pub next_too : IsCalmNext lab G p

@@ -17,7 +17,7 @@ module _ (h : NativeNode) (d : ClientNode) (the : NextPacket (native h) (client 
   unfolding relayed
   through r by_relay trusted nine p =
       let comes = next_from_native_arrives lab H q later is chained g m n h.relay d h r (address_at lab H m) x (record {
-        nodes = native_may_meet lab H m n d h r to at by_relay trusted nine p (whole the);
+        nodes = native_may_meet (record { lab = lab; H = H; n = m; m = n; c = d; h = h; r = r; at = to; to = at; through = by_relay }) trusted nine p (whole the);
         handed = subst (λ (z : Ip6). HostHandsIn q n z (address_at lab H m) x) (ap (address_of lab H n) at) sent.handed;
         no_reply = sent.no_reply;
       }) fresh in
@@ -28,7 +28,7 @@ module _ (h : NativeNode) (d : ClientNode) (the : NextPacket (native h) (client 
   -- what is seen where the word is this
   seen : (said : Reach) → reach_of lab H n m ≡ Some said
       → (r : RelayNode) × (relay_at lab.topology h.relay ≡ Some r) × SaysBack (relayed lab H m d h r) said
-  seen said is_said = of_native_and_client lab H n m said (λ a. SaysBack a said) (λ a w. subst (SaysBack a) w (says_back a)) h d at to is_said
+  seen said is_said = of_native_and_client (record { lab = lab; H = H; n = n; m = m; said = said }) (λ a. SaysBack a said) (λ a w. subst (SaysBack a) w (says_back a)) h d at to is_said
 
   pub six : reach_of lab H n m ≡ Some word.Within6 → ComesInTime H q m (client d) x later 6
   six is_said = let s = seen word.Within6 is_said in through s.0 s.1 false false s.2

@@ -21,7 +21,7 @@ use Rattle.theory_reaching.proofs.from_native.HeldByWord as held_by_word
 pub full_is_kept : KeepsFromNatives word.Full
 unfolding relayed
 full_is_kept lab H is chained q later n m h d x g at to said sent fresh =
-    let s = of_native_and_client lab H n m word.Full IsFull (λ a w. somewhere_full a (ap is_full_word w)) h d at to said in
+    let s = of_native_and_client (record { lab = lab; H = H; n = n; m = m; said = word.Full }) IsFull (λ a w. somewhere_full a (ap is_full_word w)) h d at to said in
     either_way s.0 s.1 s.2 where
       there : Grown lab (q ∷ H)
       there = earlier lab later (q ∷ H) g

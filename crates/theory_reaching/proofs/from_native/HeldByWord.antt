@@ -60,14 +60,14 @@ module _ (h : NativeNode) (d : ClientNode) (the : NextPacket (native h) (client 
     through = refl;
     relay = relay_is_there lab.topology h.relay r through;
     settled = settled_along lab H m d to settled;
-    let_in = may_meet.opened lab H m n d h r to at through alone.full.let_in;
+    let_in = may_meet.opened (record { lab = lab; H = H; n = m; m = n; c = d; h = h; r = r; at = to; to = at; through = through }) alone.full.let_in;
     host_room = rooms.0;
     client_room = rooms.1;
     may_test = λ untrusted. record {
       stale = first_fails a.fresh a.trusted alone.full.stale untrusted;
       unbarred = second_fails (not a.trusted) a.barred unbarred.0 (ap not untrusted);
     };
-    may_ask = λ must. may_meet.asks lab H m n d h r to at through (whole the) unbarred.1 places.1 must;
+    may_ask = λ must. may_meet.asks (record { lab = lab; H = H; n = m; m = n; c = d; h = h; r = r; at = to; to = at; through = through }) (whole the) unbarred.1 places.1 must;
     handed = subst (λ (z : Ip6). HostHandsIn q n z own x) (ap (address_of lab H n) at) sent.handed;
     no_reply = sent.no_reply;
   }

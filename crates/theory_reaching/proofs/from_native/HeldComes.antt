@@ -91,7 +91,7 @@ module _ (the : TrioRun) (is : IsTrio the.p) (no_reply : after_held.NoReply the.
 
   none_later : NoneBrings p.lab G t p.a.n (client p.a.c) p.x
   none_later = throughout.none_brings p.lab G t p.a.n (client p.a.c) p.x (after_held.IsAfter p is no_reply) (after_held.TrustEachOther p is no_reply)
-      (λ this sound holds up. after_held.step p is no_reply G t this sound up holds) number made_after (record {
+      (λ this sound holds up. after_held.step p is no_reply (record { H = G; t = t; this = this; sound = sound; up = up }) holds) number made_after (record {
         relay_trusts = so_far.hands.relay_trusts;
         client_trusts = so_far.hands.client_trusts;
         opened = so_far.hands.opened;

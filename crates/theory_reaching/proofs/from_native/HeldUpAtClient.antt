@@ -117,7 +117,7 @@ module _ (the : ForClient) (asks : Bool) where
           node = client c;
           item = udp r.at (embedded own) x;
           at = at ∙ ap (λ (u : Item). Some u) is;
-          goes = to_client lab are.rules G n c r.at (embedded own) x are.client_is enters;
+          goes = to_client lab are.rules G n x are.client_is enters;
         })
 
         abbrev kept : Entry
@@ -129,11 +129,20 @@ module _ (the : ForClient) (asks : Bool) where
         keeps_it : IsKeptBack (journal n G) (now G) r.at src kept
         keeps_it =
             let from = is_for.packet.source in
-            kept_back (client_settings lab.topology c) (journal n G) (now G) r.at x (value_written None None (fields_in x))
-            (held_up.reads_packet the asks)
-            (no_server the_three) (held_up.native the asks) is_for.no_reply
-            (subst (Wary (mentions (journal n G).entries) (now G)) (sym from) up.closed)
-            (ap (λ (d : Ip6). is_trusted_at r.at (known (mentions (journal n G).entries) (now G) d)) from ∙ up.mistrusted) (words lab n G)
+            kept_back (record {
+              s = client_settings lab.topology c;
+              j = journal n G;
+              n = now G;
+              from = r.at;
+              x = x;
+              v = value_written None None (fields_in x);
+              reads = held_up.reads_packet the asks;
+              no_server = no_server the_three;
+              native = held_up.native the asks;
+              no_reply = is_for.no_reply;
+              closed = subst (Wary (mentions (journal n G).entries) (now G)) (sym from) up.closed;
+              mistrusted = ap (λ (d : Ip6). is_trusted_at r.at (known (mentions (journal n G).entries) (now G) d)) from ∙ up.mistrusted;
+            }) (words lab n G)
 
         at_itself : Result
         at_itself =
@@ -178,9 +187,9 @@ module _ (the : ForClient) (asks : Bool) where
         by (to_nobody u to miss) = missed u miss
 
       pub goes_to_client : Result
-      goes_to_client = by (comes_or_not lab G g.1 (asks_at lab c) r.at (embedded own) c
+      goes_to_client = by (comes_or_not (record { lab = lab; H = G; g = g.1; src = asks_at lab c; other = r.at }) (embedded own) c
           (is_let_in lab G (now G) (asks_at lab c) (embedded own) n c are.rules are.chained there
           (enters_along lab G g.1 (asks_at lab c) (nats_of lab c) c.inside (embedded own) up.way))) where
-            by : Comes lab G g.1 (asks_at lab c) r.at (embedded own) c → Result
+            by : Comes (record { lab = lab; H = G; g = g.1; src = asks_at lab c; other = r.at }) (embedded own) c → Result
             by (let_in_too enters) = at_itself enters
             by (shut_there b out) = shut_out b out

@@ -63,8 +63,14 @@ module _ (the : ForClient) (asks : Bool) where
       at_its_server =
           let d = to_its_server.did in
           record {
-            made = subst (λ (ms : List Made). AllByRecursion IsOnWay (filter_map item_in ms)) (sym (at_server.passes_on lab
-                (c_side the_three) (end the_three) r.six r.at (may_tell the_three) G p
+            made = subst (λ (ms : List Made). AllByRecursion IsOnWay (filter_map item_in ms)) (sym (at_server.passes_on (record {
+              lab = lab;
+              a = c_side the_three;
+              end = end the_three;
+              peer = r.six;
+              from = r.at;
+              may = may_tell the_three;
+            }) G p
                 (server_ep row.primary) d sound)) (told may refl, tt);
             stays = held_up.still_held_up the asks
                 G p (record { follows = g.0; calm = to_its_server.calm; moment = d.moment }) c.server d.node

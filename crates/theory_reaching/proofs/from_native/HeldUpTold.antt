@@ -61,7 +61,7 @@ module _ (the : ForClient) (asks : Bool) where
         node = client c;
         item = udp (server_ep row.primary) (embedded own) z;
         at = at ∙ ap (λ (u : Item). Some u) is;
-        goes = to_client lab are.rules G n c (server_ep row.primary) (embedded own) z are.client_is
+        goes = to_client lab are.rules G n z are.client_is
             (is_let_in lab G (now G) (server_ep row.primary) (embedded own) n c are.rules are.chained there
             (enters_along lab G g.1 (server_ep row.primary) (nats_of lab c) c.inside (embedded own)
             (its_way the_three G way_in)));
@@ -69,16 +69,33 @@ module _ (the : ForClient) (asks : Bool) where
 
       reads : ReadsPayload v z
       reads =
-          let b = at_server.reads lab (c_side the_three) (end the_three) r.six r.at
-          (may_tell the_three) in
+          let b = at_server.reads (record {
+            lab = lab;
+            a = c_side the_three;
+            end = end the_three;
+            peer = r.six;
+            from = r.at;
+            may = may_tell the_three;
+          }) in
           forwarded_reads_back (bubble_bytes r.six own) _ (Some r.at) b.bytes b.payload.read (bubble_small r.six own) (relay_keeps the_three).at
 
       abbrev pub got : Entry
       got = client_in (client_settings lab.topology c) (journal n G) (now G) (server_ep row.primary) z (words lab n G)
 
       pub answered : AnswersOnly (journal n G) (now G) own r.six r.at got
-      answered = answers (client_settings lab.topology c) (journal n G) (now G) (server_ep row.primary) z v reads
-          (from_its_server the_three) (ap is_advert (bubble_message r.six own)) r.at refl (words lab n G)
+      answered = answers (record {
+        s = client_settings lab.topology c;
+        j = journal n G;
+        n = now G;
+        from = server_ep row.primary;
+        x = z;
+        v = v;
+        reads = reads;
+        server = from_its_server the_three;
+        no_advert = ap is_advert (bubble_message r.six own);
+        at = r.at;
+        origin = refl;
+      }) (words lab n G)
 
       -- of the native host the same is known
       pub as_known : known (mentions (got ∷ (journal n G).entries)) (now G) h.six ≡ known (mentions (journal n G).entries) (now G) h.six
@@ -92,7 +109,7 @@ module _ (the : ForClient) (asks : Bool) where
       -- it makes such entries, and brings nothing
       pub made_at_client : AllByRecursion IsOnWay (items_of p)
       made_at_client = subst (λ (ms : List Made). AllByRecursion IsOnWay (filter_map item_in ms))
-          (sym (all_leaves lab G p (c_side the_three) got (record {
+          (sym (all_leaves {lab = lab} {H = G} {q = p} {a = (c_side the_three)} {e = got} (record {
             end = end the_three;
             kinds = (along the_three).kinds;
             grown = g.1;

@@ -93,9 +93,23 @@ says_back a = by_lines (SaysBack a) (from_native_lines a) word.Within6 (
 
 -- WHAT THE THREE ARE
 
+-- a client, a native host and its relay after a history
+pub record NativeThrough : Type 0 where
+  pub lab : Lab
+  pub H : List Full
+  pub n : ℕ
+  pub m : ℕ
+  pub c : ClientNode
+  pub h : NativeNode
+  pub r : RelayNode
+  pub at : node_at lab.topology n ≡ Some (client c)
+  pub to : node_at lab.topology m ≡ Some (native h)
+  pub through : relay_at lab.topology h.relay ≡ Some r
+
 -- node n is the client c, and node m the native h, whose relay is r
-module _ (lab : Lab) (H : List Full) (n m : ℕ) (c : ClientNode) (h : NativeNode) (r : RelayNode)
-    (at : node_at lab.topology n ≡ Some (client c)) (to : node_at lab.topology m ≡ Some (native h)) (through : relay_at lab.topology h.relay ≡ Some r) where
+module _ (native_through : NativeThrough) where
+  open native_through use {lab, H, n, m, c, h, r, at, to, through}
+
   abbrev own : Ip6
   own = address_at lab H n
 

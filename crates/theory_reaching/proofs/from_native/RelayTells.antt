@@ -1,7 +1,7 @@
 -- A relay's bubble to a client, at the client's server and from there: the relay may tell of itself.
 use Rattle.theory_reaching.proofs.Words.{Ep, Full, Ip4, Ip6, List, MayTell, ServerNode, WayIn, address_at, ap, asks_at, bubble_bytes, bubble_to, client_settings, embedded, is_from_server, nats_of, or_left, relay_settings, same_ep, same_ep-self, send, server_ep, server_in, subst, true, ◌∙◌, ◌≡◌}
 use Rattle.theory_first_natives.proofs.RelayEndpoint as endpoint
-use Rattle.theory_reaching.proofs.relays.RelayEnds.{c_side, end, beside}
+use Rattle.theory_reaching.proofs.relays.RelayEnds.{end, beside}
 use Rattle.theory_reaching.proofs.relays.Relays.{RelayedHosts}
 
 module _ (the : RelayedHosts) where
@@ -11,7 +11,7 @@ module _ (the : RelayedHosts) where
   row = (end the).server_row
 
   pub may_tell : MayTell lab row r.six r.at
-  may_tell = endpoint.may_tell lab (c_side the) h.relay r (beside the)
+  may_tell = endpoint.may_tell (beside the)
 
   -- it goes to the client's server
   pub its_bubble : (d : Ip6) → d ≡ address_at lab H n

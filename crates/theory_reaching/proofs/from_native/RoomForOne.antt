@@ -190,8 +190,14 @@ module _ (the : ForClient) (plain : has_cone (address_at the.lab the.H the.n) �
       })
 
       told_early : EarlyMade p
-      told_early = subst (λ (ms : List Made). AllByRecursion IsEarly (filter_map item_in ms)) (sym (at_server.passes_on lab
-          (c_side the_three) (end the_three) r.six r.at (may_tell the_three) G p
+      told_early = subst (λ (ms : List Made). AllByRecursion IsEarly (filter_map item_in ms)) (sym (at_server.passes_on (record {
+        lab = lab;
+        a = c_side the_three;
+        end = end the_three;
+        peer = r.six;
+        from = r.at;
+        may = may_tell the_three;
+      }) G p
           (server_ep row.primary) to_its_server.did sound)) (at_client refl, tt)
 
       server_tells : Result

@@ -26,7 +26,7 @@ module _ (the : SentBack) (led : is_led_to the.lab the.H the.r.at (embedded (add
   shut_before : Enters H (now H) → ⊥
   unfolding is_led_to
   shut_before enters =
-      let goes = to_client lab back.from.are.rules H n c r.at (embedded own) [] back.from.are.client_is
+      let goes = to_client lab back.from.are.rules H n [] back.from.are.client_is
       (is_let_in lab H (now H) r.at (embedded own) n c back.from.are.rules back.from.are.chained there enters) in
       false≢true (sym led ∙ ap (ends_at n) goes ∙ same_number n)
 
@@ -44,8 +44,17 @@ module _ (the : SentBack) (led : is_led_to the.lab the.H the.r.at (embedded (add
   stay_before : Stay (q ∷ H) H
   stay_before = let d = did the in stay H q m (native h) d.node d.passed back.from.are.host_is refl
 
-  module _ (p : Full) (g : Grown lab (p ∷ q ∷ H)) (sound : HasNoFault p) (delivered : p.delivered ≡ Some q.first)
-      (at : slice_get (wire (q ∷ H)) q.first ≡ Some (six (Some h.relay) x)) where
+  -- the host's packet is delivered to its relay
+  pub record FirstDelivery : Type 0 where
+    pub p : Full
+    pub g : Grown lab (p ∷ q ∷ H)
+    pub sound : HasNoFault p
+    pub delivered : p.delivered ≡ Some q.first
+    pub at : slice_get (wire (q ∷ H)) q.first ≡ Some (six (Some h.relay) x)
+
+  module _ (first_delivery : FirstDelivery) where
+    open first_delivery use {p, g, sound, delivered, at}
+
     abbrev F : List Full
     F = p ∷ q ∷ H
 
@@ -71,8 +80,8 @@ module _ (the : SentBack) (led : is_led_to the.lab the.H the.r.at (embedded (add
     server_in : IsLetIn lab F (now F) (asks_at lab c) (embedded own) c
     server_in = is_let_in lab F (now F) (asks_at lab c) (embedded own) n c back.from.are.rules back.from.are.chained there
         (enters_along lab F g (asks_at lab c) (nats_of lab c) c.inside (embedded own)
-        (still_in lab (q ∷ H) p (next_too the p g sound delivered at) (asks_at lab c) (nats_of lab c) c.inside
-        (embedded own) (still_in lab H q (next the) (asks_at lab c) (nats_of lab c) c.inside (embedded own)
+        (still_in (q ∷ H) (next_too the p g sound delivered at) (asks_at lab c) (nats_of lab c) c.inside
+        (embedded own) (still_in H (next the) (asks_at lab c) (nats_of lab c) c.inside (embedded own)
         (way the_three))))
 
     -- A SECOND DELIVERY
@@ -83,9 +92,9 @@ module _ (the : SentBack) (led : is_led_to the.lab the.H the.r.at (embedded (add
       same_item z e = ap (λ (o : Option Item). unwrap_or o z) (sym e ∙ to)
 
       to_no_node : (i : ℕ) (a : Node) → route lab F (now F) (udp r.at (embedded own) x) ≡ reaches i a → ⊥
-      to_no_node i a goes = by (comes_or_not lab F g (asks_at lab c) r.at (embedded own) c
+      to_no_node i a goes = by (comes_or_not (record { lab = lab; H = F; g = g; src = asks_at lab c; other = r.at }) (embedded own) c
           server_in) where
-            by : Comes lab F g (asks_at lab c) r.at (embedded own) c → ⊥
+            by : Comes (record { lab = lab; H = F; g = g; src = asks_at lab c; other = r.at }) (embedded own) c → ⊥
             by (let_in_too enters) = shut_then (enters_by_its_way lab F (now F) r.at (embedded own) c back.from.are.chained enters)
             by (shut_there j out) = false≢true (ap is_reached (sym (to_none lab back.from.are.rules F r.at (embedded own) x j out) ∙ goes))
 
@@ -108,5 +117,5 @@ module _ (the : SentBack) (led : is_led_to the.lab the.H the.r.at (embedded (add
     makes = makes the;
     goes_on = λ p g sound delivered at. ap (filter_map item_in) (sent_on the p g sound delivered at);
   }) n (client c) x
-      (λ s p grown sound delivered at again to. ends_here p grown.1 sound delivered at s grown again to)
-      (λ p g sound delivered at. silent p g sound delivered at)
+      (λ s p grown sound delivered at again to. ends_here (record { p = p; g = grown.1; sound = sound; delivered = delivered; at = at }) s grown again to)
+      (λ p g sound delivered at. silent (record { p = p; g = g; sound = sound; delivered = delivered; at = at }))

@@ -45,7 +45,7 @@ why_stale a = by_lines (λ (r : Reach). is_stale r ≡ true → IsShutOff a ⊎ 
 pub stale_is_kept : KeepsFromNatives word.Stale
 unfolding relayed
 stale_is_kept lab H is chained q later n m h d x g at to said sent fresh =
-    let s = of_native_and_client lab H n m word.Stale (λ a. IsShutOff a ⊎ IsFreshElsewhere a) (λ a w. why_stale a (ap is_stale w)) h d at to said in
+    let s = of_native_and_client (record { lab = lab; H = H; n = n; m = m; said = word.Stale }) (λ a. IsShutOff a ⊎ IsFreshElsewhere a) (λ a w. why_stale a (ap is_stale w)) h d at to said in
     of s.0 s.1 s.2 where
       there : Grown lab (q ∷ H)
       there = earlier lab later (q ∷ H) g

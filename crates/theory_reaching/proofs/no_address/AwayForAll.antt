@@ -13,7 +13,17 @@ use Rattle.theory_reaching.proofs.to_native.Unanswered.{brings_nothing}
 
 -- THE RECEIVER
 
-module _ (lab : Lab) (rules : IsTopology lab.topology) (m : ℕ) (d : ClientNode) (there : node_at lab.topology m ≡ Some (client d)) where
+-- a client of a topology that keeps its rules
+pub record ClientThere : Type 0 where
+  pub lab : Lab
+  pub rules : IsTopology lab.topology
+  pub m : ℕ
+  pub d : ClientNode
+  pub there : node_at lab.topology m ≡ Some (client d)
+
+module _ (client_there : ClientThere) where
+  open client_there use {lab, rules, m, d, there}
+
   abbrev s : Settings
   s = client_settings lab.topology d
 
@@ -70,7 +80,7 @@ module _ (lab : Lab) (rules : IsTopology lab.topology) (m : ℕ) (d : ClientNode
     by (to_node i a u e reached) =
         let its : IsReached lab this.G this.p i a this.y = subst (IsReached lab this.G this.p i a) (sym (same_item u e)) reached in
         let holds = stays this none off i a its z in
-        record { made = of_delivery lab rules this.G this.p this.g i a this.y none its; stays = holds.0; silent = holds.1 }
+        record { made = of_delivery (record { lab = lab; rules = rules; G = this.G; p = this.p; g = this.g }) i a this.y none its; stays = holds.0; silent = holds.1 }
     by (to_nobody u e miss) = record {
       made = subst (λ (ms : List Made). AllByRecursion IsNonceless (filter_map item_in ms)) (sym miss.made) tt;
       stays = ap (λ (j : Journal). is_qualified (qualification s j).phase) (miss.journals m) ∙ off;
@@ -102,18 +112,18 @@ module _ (lab : Lab) (rules : IsTopology lab.topology) (H : List Full) (q : Full
   of_client : (c : ClientNode) → node_at lab.topology n ≡ Some (client c) → AllByRecursion IsNonceless (items_of q)
   of_client c at =
       let is = its_act lab H q n (client c) x g.0 at hands in
-      of_client_host lab rules H q g n c is.0 x is.1 is.2
+      of_client_host (record { lab = lab; rules = rules; G = H; p = q; g = g }) n c is.0 x is.1 is.2
 
   of_native : (h : NativeNode) → node_at lab.topology n ≡ Some (native h) → AllByRecursion IsNonceless (items_of q)
   of_native h at =
       let is = its_act lab H q n (native h) x g.0 at hands in
-      of_native_host lab rules H q g n h is.0 is.1
+      of_native_host (record { lab = lab; rules = rules; G = H; p = q; g = g }) n h is.0 is.1
 
 -- THE WORD
 
 pub away_brings_nothing : AwayBringsNothing
 unfolding two_clients relayed
-away_brings_nothing lab H rules q later n m a d x y g at to said hands fresh = by (said_by lab H n m word.Away a (client d) at to said) where
+away_brings_nothing lab H rules q later n m a d x y g at to said hands fresh = by (said_by (record { lab = lab; H = H; n = n; m = m; said = word.Away }) a (client d) at to said) where
   there : Grown lab (q ∷ H)
   there = earlier lab later (q ∷ H) g
 
@@ -122,7 +132,7 @@ away_brings_nothing lab H rules q later n m a d x y g at to said hands fresh = b
 
   none : is_on lab H m d ≡ false → AllByRecursion IsNonceless (items_of q) → SomeBrings m (client d) y later → ⊥
   none off all = none_brings lab H q m (client d) y IsNonceless (λ (G : List Full). is_on lab G m d ≡ false)
-      (λ this sound is still. step lab rules m d to y this is still q H)
+      (λ this sound is still. step (record { lab = lab; rules = rules; m = m; d = d; there = to }) y this is still q H)
       (first_is lab H q there) all
       (ap (λ (j : Journal). is_qualified (qualification (client_settings lab.topology d) j).phase)
       (other_journal lab H q n m hands.node others) ∙ off) later g fresh

@@ -58,7 +58,17 @@ by_native h (Some x) = (tt, tt)
 
 -- A DELIVERY
 
-module _ (lab : Lab) (rules : IsTopology lab.topology) (G : List Full) (p : Full) (g : Grown lab (p ∷ G)) where
+-- the last record of a history of a topology that keeps its rules
+pub record LastRecord : Type 0 where
+  pub lab : Lab
+  pub rules : IsTopology lab.topology
+  pub G : List Full
+  pub p : Full
+  pub g : Grown lab (p ∷ G)
+
+module _ (last_record : LastRecord) where
+  open last_record use {lab, rules, G, p, g}
+
   packets : (xs : List Send) (ms : List Made) → AreOfSends ms xs → ArePlain xs → AreMadeItems ms → AreNonceless ms
   packets = of_sends IsPlain (has_none)
 

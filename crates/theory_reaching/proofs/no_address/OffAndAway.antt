@@ -42,13 +42,26 @@ away_from a e = failed a.on (that_one (not a.on) (which_held is_away (from_nativ
 
 -- WHAT BECOMES OF THE PACKET
 
-module _ (lab : Lab) (H : List Full) (q : Full) (later : List Full) (n m : ℕ) (x : List ℕ) (g : Grown lab (later ++ q ∷ H))
-    (fresh : AreFresh q later) where
+-- a fresh schedule after a host handed in a packet
+pub record FreshAfter : Type 0 where
+  pub lab : Lab
+  pub H : List Full
+  pub q : Full
+  pub later : List Full
+  pub n : ℕ
+  pub m : ℕ
+  pub x : List ℕ
+  pub g : Grown lab (later ++ q ∷ H)
+  pub fresh : AreFresh q later
+
+module _ (fresh_after : FreshAfter) where
+  open fresh_after use {lab, H, q, later, n, m, x, g, fresh}
+
   abbrev there : Grown lab (q ∷ H)
   there = earlier lab later (q ∷ H) g
 
   taken : (a : Node) → node_at lab.topology n ≡ Some a → IsSentNext lab H q n m a x → Handing lab H q n a x
-  taken a at sent = host_hands lab H q n a (address_at lab H n) (address_at lab H m) x at there.0 sent.handed
+  taken a at sent = host_hands H at there.0 sent.handed
 
   -- of a client that isn't qualified
   off_drops : (c : ClientNode) → Handing lab H q n (client c) x → is_qualified (standing lab H n c).phase ≡ false → IsDroppedAtOnce q later
@@ -66,10 +79,10 @@ module _ (lab : Lab) (H : List Full) (q : Full) (later : List Full) (n m : ℕ) 
 
 pub off_is_kept : KeepsItsPromise word.Off
 unfolding two_clients relayed
-off_is_kept lab H is chained q later n m a b x g at to said sent fresh = by (said_by lab H n m word.Off a b at to said) where
+off_is_kept lab H is chained q later n m a b x g at to said sent fresh = by (said_by (record { lab = lab; H = H; n = n; m = m; said = word.Off }) a b at to said) where
   of_client : (c : ClientNode) → a ≡ client c → is_qualified (standing lab H n c).phase ≡ false → IsDroppedAtOnce q later
-  of_client c same e = off_drops lab H q later n m x g fresh c
-      (subst (λ (z : Node). Handing lab H q n z x) same (taken lab H q later n m x g fresh a at sent)) e
+  of_client c same e = off_drops (record { lab = lab; H = H; q = q; later = later; n = n; m = m; x = x; g = g; fresh = fresh }) c
+      (subst (λ (z : Node). Handing lab H q n z x) same (taken (record { lab = lab; H = H; q = q; later = later; n = n; m = m; x = x; g = g; fresh = fresh }) a at sent)) e
 
   by : SaidBy lab H n m a b word.Off → IsDroppedAtOnce q later
   by (between_clients c d same other e) = of_client c same (off_between (two_clients lab H n m c d) (ap is_off e))
@@ -87,7 +100,7 @@ not_global = refl
 
 pub away_is_kept : KeepsItsPromise word.Away
 unfolding two_clients relayed own_address
-away_is_kept lab H is chained q later n m a b x g at to said sent fresh = by (said_by lab H n m word.Away a b at to said) where
+away_is_kept lab H is chained q later n m a b x g at to said sent fresh = by (said_by (record { lab = lab; H = H; n = n; m = m; said = word.Away }) a b at to said) where
   before : Grown lab H
   before = (earlier lab later (q ∷ H) g).1
 
@@ -101,7 +114,7 @@ away_is_kept lab H is chained q later n m a b x g at to said sent fresh = by (sa
 
   drops : is_global6 (fields_in x).dst ≡ false → ((c : ClientNode) → a ≡ client c → IsDroppedAtOnce q later)
       × ((h : NativeNode) → a ≡ native h → IsDroppedAtOnce q later)
-  drops = away_drops lab H q later n m x g fresh a (taken lab H q later n m x g fresh a at sent)
+  drops = away_drops (record { lab = lab; H = H; q = q; later = later; n = n; m = m; x = x; g = g; fresh = fresh }) a (taken (record { lab = lab; H = H; q = q; later = later; n = n; m = m; x = x; g = g; fresh = fresh }) a at sent)
 
   by : SaidBy lab H n m a b word.Away → IsDroppedAtOnce q later
   by (between_clients c d same other e) = (drops (nowhere d other (away_between (two_clients lab H n m c d) (ap is_away e)))).0 c same

@@ -86,11 +86,11 @@ module _ (the : Both) (first : List ℕ) (rest : List (List ℕ)) (is : IsPastWa
   its_here : IsHere (client_settings lab.topology c) (journal n H) (fields_in x).src
   its_here = subst (IsHere (client_settings lab.topology c) (journal n H)) (sym are.handed.packet.source) (sender_here the)
 
-  waits : Waits (client_settings lab.topology c) (journal n H) (now H) x are.handed.packet.packet its_meets its_here (small the) are.handed.packet.no_bubble
+  waits : Waits (record { s = client_settings lab.topology c; j = journal n H; n = now H; x = x; is_one = are.handed.packet.packet; meets = its_meets; here = its_here; small = small the; plain = are.handed.packet.no_bubble })
       stale_so (e the)
   waits =
       let dst = are.handed.packet.destination in
-      waits_here (client_settings lab.topology c) (journal n H) (now H) x are.handed.packet.packet its_meets its_here (small the) are.handed.packet.no_bubble
+      waits_here (record { s = client_settings lab.topology c; j = journal n H; n = now H; x = x; is_one = are.handed.packet.packet; meets = its_meets; here = its_here; small = small the; plain = are.handed.packet.no_bubble })
       stale_so (ap has_cone dst ∙ is.plain) (ap (has_room (mentions (journal n H).entries) (now H)) dst ∙ is.room)
       (ap (λ (k : Peer). k.waiting) known_is ∙ is.nothing_waits, ap (is_barred (now H)) known_is ∙ is.unbarred) (words lab n H)
 
@@ -104,16 +104,16 @@ module _ (the : Both) (first : List ℕ) (rest : List (List ℕ)) (is : IsPastWa
 
   all : AllSent lab H q c own (both_bubbles false own other)
   all = leave the (both_bubbles false own other) sends (
-    elsewhere lab are.rules (a_side the) (b_side the) (sender_end the) (receiver_end the) (differ the),
-    (server_elsewhere lab are.rules (b_side the) (a_side the) (receiver_end the) (sender_end the), tt),
+    elsewhere (record { lab = lab; is = are.rules; a = a_side the; b = b_side the; an = sender_end the; bn = receiver_end the }) (differ the),
+    (server_elsewhere (record { lab = lab; is = are.rules; a = b_side the; b = a_side the; an = receiver_end the; bn = sender_end the }), tt),
   )
 
   items : items_of q ≡ straight run ∷ asking run ∷ []
   items = ap (filter_map item_in) all.made
 
-  left : Afterwards (client_settings lab.topology c) (journal n H) (now H) other (e the) about waits.moment (x ∷ [])
+  left : Afterwards (record { s = client_settings lab.topology c; j = journal n H; n = now H; peer = other; e = e the; about = about; moment = waits.moment }) (x ∷ [])
       (is_trusted_at (embedded other) (known_by H n other))
-  left = after_queued (client_settings lab.topology c) (journal n H) (now H) other (e the) about waits.moment x waits.queued waits.packet is.nothing_waits
+  left = after_queued (record { s = client_settings lab.topology c; j = journal n H; n = now H; peer = other; e = e the; about = about; moment = waits.moment }) waits.queued waits.packet is.nothing_waits
 
   -- THE FOOTING
 
@@ -126,10 +126,10 @@ module _ (the : Both) (first : List ℕ) (rest : List (List ℕ)) (is : IsPastWa
     grown = are.grown;
     sender = ap (λ (j : Journal). (qualification (client_settings lab.topology c) j).address) (did the).later ∙ left.address ∙ (sender_along the).address;
     receiver = ap (λ (j : Journal). (qualification (client_settings lab.topology d) j).address) (receiver_stays the) ∙ (receiver_along the).address;
-    sender_way = still_in lab H q (next the) (asks_at lab c) (nats_of lab c) c.inside (embedded own) (way_of_server lab H n c own (sender_settles the));
+    sender_way = still_in H (next the) (asks_at lab c) (nats_of lab c) c.inside (embedded own) (way_of_server lab H n c own (sender_settles the));
     receiver_way = server_way_then the;
     inward = all.back.0;
-    outward = still_in lab H q (next the) (embedded own) (nats_of lab d) d.inside (embedded other) outward;
+    outward = still_in H (next the) (embedded own) (nats_of lab d) d.inside (embedded other) outward;
     receiver_keeps = at_same_moment (λ z t. Keeps z t own (first ∷ rest) (is_trusted_at (embedded own) (known_by H m own))) H q m (journal m H)
         (next the).moment (receiver_stays the) (record { room = is.heard; waits = is.waits; trust = refl });
     sender_keeps = at_same_moment (λ z t. Keeps z t other (x ∷ []) (is_trusted_at (embedded other) (known_by H n other))) H q n

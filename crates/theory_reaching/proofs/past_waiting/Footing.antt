@@ -115,14 +115,14 @@ module _ (the : OnFooting) where
   pub receiver_releases : (dst : Ep) → IsElsewhere lab dst.ip (nats_of lab b.c) → (e : Entry) → Did lab H q b.n (client b.c) e → (xs : List (List ℕ))
       → e.step.sends ≡ releases dst xs → items_of q ≡ on_way (embedded b.own) dst xs
   receiver_releases dst far e did xs sends =
-      let gone = all_leaves lab H q b e (receiver_sends e did) (releases dst xs) sends
+      let gone = all_leaves (receiver_sends e did) (releases dst xs) sends
       (all_there (λ (to : Ep). IsElsewhere lab to.ip (nats_of lab b.c)) dst xs far) in
       ap (filter_map item_in) gone.made ∙ items_released (embedded b.own) dst xs
 
   pub sender_releases : (dst : Ep) → IsElsewhere lab dst.ip (nats_of lab a.c) → (e : Entry) → Did lab H q a.n (client a.c) e → (xs : List (List ℕ))
       → e.step.sends ≡ releases dst xs → items_of q ≡ on_way (embedded a.own) dst xs
   sender_releases dst far e did xs sends =
-      let gone = all_leaves lab H q a e (sender_sends e did) (releases dst xs) sends
+      let gone = all_leaves (sender_sends e did) (releases dst xs) sends
       (all_there (λ (to : Ep). IsElsewhere lab to.ip (nats_of lab a.c)) dst xs far) in
       ap (filter_map item_in) gone.made ∙ items_released (embedded a.own) dst xs
 
@@ -145,7 +145,7 @@ module _ (the : OnFooting) where
     sender_keeps = sender;
   } where
     way : (s : Side) (src : Ep) → ComesIn lab H src s → ComesIn lab (q ∷ H) src s
-    way s src w = still_in lab H q next src (nats_of lab s.c) s.c.inside (embedded s.own) w
+    way s src w = still_in H next src (nats_of lab s.c) s.c.inside (embedded s.own) w
 
   -- of a client whose journal stays, or that did this
   pub same_address : (s : Side) → journal s.n (q ∷ H) ≡ journal s.n H → client_address lab (q ∷ H) s.n s.c ≡ client_address lab H s.n s.c

@@ -13,8 +13,22 @@ pub record HandsOver (j : Journal) (n : ℕ) (trusted : Bool) (x : List ℕ) (pe
   pub about : e.peer ≡ Some peer
   pub moment : e.moment ≡ n
 
-module _ (s : Settings) (j : Journal) (n : ℕ) (own peer : Ip6) (meets : Meets s own peer) (trusted : Bool) (knows : Knows s j n own peer trusted)
-    (x : List ℕ) (kept : IsKept peer own x) where
+-- a packet that a peer kept for the client
+pub record KeptFromPeer : Type 0 where
+  pub s : Settings
+  pub j : Journal
+  pub n : ℕ
+  pub own : Ip6
+  pub peer : Ip6
+  pub meets : Meets s own peer
+  pub trusted : Bool
+  pub knows : Knows s j n own peer trusted
+  pub x : List ℕ
+  pub kept : IsKept peer own x
+
+module _ (kept_from_peer : KeptFromPeer) where
+  open kept_from_peer use {s, j, n, own, peer, meets, trusted, knows, x, kept}
+
   from_peer : peer ≡ (fields_in x).src
   from_peer = ap (λ (o : Option Ip6). unwrap_or o peer) kept.packet.source
 
@@ -30,8 +44,8 @@ module _ (s : Settings) (j : Journal) (n : ℕ) (own peer : Ip6) (meets : Meets 
   abbrev done : Words → Ip6 → Entry
   done w z = client_in s j n (embedded z) x w
 
-  of_source : (w : Words) → Hands s j n (fields_in x) meets_so trusted knows_so kept.packet.short trusted x (done w (fields_in x).src)
-  of_source w = hands_packet s j n (fields_in x) meets_so trusted knows_so kept.packet.short x (reads_so peer own x kept) kept.packet.no_bubble w
+  of_source : (w : Words) → Hands (record { s = s; j = j; n = n; p = fields_in x; meets = meets_so; trusted = trusted; knows = knows_so; small = kept.packet.short }) trusted x (done w (fields_in x).src)
+  of_source w = hands_packet (record { s = s; j = j; n = n; p = fields_in x; meets = meets_so; trusted = trusted; knows = knows_so; small = kept.packet.short }) (reads_so peer own x kept) kept.packet.no_bubble w
 
   so : (w : Words) → HandsOver j n trusted x (fields_in x).src (done w (fields_in x).src)
   so w = let h = of_source w in

@@ -38,8 +38,18 @@ bounded after before made n total longer many le = omega (arith, longer, many, l
 
 -- THE MOVES
 
-module _ (the : Run) (later : List Full) (q : Full) (fresh : DeliversFresh the.r later q) (follows : Follows the.p.lab (after the later) q)
-    (asked : Bool) (t : Option ℕ) where
+-- one more delivery of a fresh schedule, past what waited
+pub record Move : Type 0 where
+  pub the : Run
+  pub later : List Full
+  pub q : Full
+  pub fresh : DeliversFresh the.r later q
+  pub follows : Follows the.p.lab (after the later) q
+  pub asked : Bool
+  pub t : Option ℕ
+
+module _ (this_move : Move) where
+  open this_move use {the, later, q, fresh, follows, asked, t}
   open the use {p, is, before, r, first, rest, each}
 
   abbrev G : List Full

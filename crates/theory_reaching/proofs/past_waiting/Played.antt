@@ -11,7 +11,16 @@ module _ (the : Run) where
 
   -- ONE DELIVERY
 
-  module _ (later : List Full) (q : Full) (fresh : DeliversFresh r later q) (follows : Follows p.lab (after the later) q) where
+  -- one more delivery of a fresh schedule
+  pub record NextPlayed : Type 0 where
+    pub later : List Full
+    pub q : Full
+    pub fresh : DeliversFresh r later q
+    pub follows : Follows p.lab (after the later) q
+
+  module _ (next_played : NextPlayed) where
+    open next_played use {later, q, fresh, follows}
+
     abbrev G : List Full
     G = after the later
 
@@ -56,33 +65,35 @@ module _ (the : Run) where
 
       -- one that the sender hears
       heard_by_sender : suc r.first < k → (released : Bool) (board : Board the true asked released t later)
-          → LetsGo (on the later q fresh follows asked t true released board) k (delivery the later q fresh follows asked t true released board)
+          → LetsGo (on (record { the = the; later = later; q = q; fresh = fresh; follows = follows; asked = asked; t = t }) true released board) k (delivery
+          (record { the = the; later = later; q = q; fresh = fresh; follows = follows; asked = asked; t = t }) true released board)
           → Stands the true released later (Some k) → SomeBoard the (q ∷ later)
-      heard_by_sender far false board out stands = some true asked true t (lets_go_now the later q fresh follows asked t far board out)
-      heard_by_sender far true board out stands = some true asked true t (nothing_more the later q fresh follows asked t far board out stands)
+      heard_by_sender far false board out stands = some true asked true t (lets_go_now (record { the = the; later = later; q = q; fresh = fresh; follows = follows; asked = asked; t = t }) far board out)
+      heard_by_sender far true board out stands = some true asked true t (nothing_more (record { the = the; later = later; q = q; fresh = fresh; follows = follows; asked = asked; t = t }) far board out stands)
 
       -- by its kind
       by_kind : (heard released : Bool) → Board the heard asked released t later → (y : Item) → slice_get (wire G) k ≡ Some y → IsOf the heard t k y
           → Stands the heard released later (Some k) → SomeBoard the (q ∷ later)
       by_kind false released board y at (is_straight same e) stands =
-          some true asked released t (straight_comes the later q fresh follows asked t released board same (at ∙ ap (λ (z : Item). Some z) e))
+          some true asked released t (straight_comes (record { the = the; later = later; q = q; fresh = fresh; follows = follows; asked = asked; t = t }) released board same (at ∙ ap (λ (z : Item). Some z) e))
       by_kind true released board y at (is_straight same e) stands =
           absurd (false≢true (sym fresh.once ∙ ap (λ (i : ℕ). was_delivered i later) same ∙ board.straight_is))
       by_kind heard released board y at (is_asking same e) stands =
-          some heard true released (Some (length (wire G))) (asking_comes the later q fresh follows asked t same (at ∙ ap (λ (z : Item). Some z) e) heard released board stands)
+          some heard true released (Some (length (wire G))) (asking_comes (record { the = the; later = later; q = q; fresh = fresh; follows = follows; asked = asked; t = t }) same (at
+          ∙ ap (λ (z : Item). Some z) e) heard released board stands)
       by_kind heard released board y at (is_told now far e) stands =
-          some heard asked released t (told_comes the later q fresh follows asked t far now (at ∙ ap (λ (z : Item). Some z) e) heard released board stands)
+          some heard asked released t (told_comes (record { the = the; later = later; q = q; fresh = fresh; follows = follows; asked = asked; t = t }) far now (at ∙ ap (λ (z : Item). Some z) e) heard released board stands)
       by_kind false released board y at (is_bubble_back h far e) stands = absurd (false≢true h)
       by_kind true released board y at (is_bubble_back h far e) stands =
-          heard_by_sender far released board (at_bubble (on the later q fresh follows asked t true released board) k
-          (delivery the later q fresh follows asked t true released board) (at ∙ ap (λ (z : Item). Some z) e)) stands
+          heard_by_sender far released board (at_bubble (on (record { the = the; later = later; q = q; fresh = fresh; follows = follows; asked = asked; t = t }) true released board) k
+          (delivery (record { the = the; later = later; q = q; fresh = fresh; follows = follows; asked = asked; t = t }) true released board) (at ∙ ap (λ (z : Item). Some z) e)) stands
       by_kind false released board y at (is_kept h far x one e) stands = absurd (false≢true h)
       by_kind true released board y at (is_kept h far x one e) stands =
-          heard_by_sender far released board (at_kept (on the later q fresh follows asked t true released board) k
-          (delivery the later q fresh follows asked t true released board) x one (at ∙ ap (λ (z : Item). Some z) e)) stands
+          heard_by_sender far released board (at_kept (on (record { the = the; later = later; q = q; fresh = fresh; follows = follows; asked = asked; t = t }) true released board) k
+          (delivery (record { the = the; later = later; q = q; fresh = fresh; follows = follows; asked = asked; t = t }) true released board) x one (at ∙ ap (λ (z : Item). Some z) e)) stands
       by_kind false released board y at (is_packet_itself h far e) stands = absurd (false≢true h)
       by_kind true released board y at (is_packet_itself h far e) stands =
-          some true asked released t (packet_comes the later q fresh follows asked t far released board (at ∙ ap (λ (z : Item). Some z) e))
+          some true asked released t (packet_comes (record { the = the; later = later; q = q; fresh = fresh; follows = follows; asked = asked; t = t }) far released board (at ∙ ap (λ (z : Item). Some z) e))
 
       by_place : (heard released : Bool) → Board the heard asked released t later → (y : Item) → slice_get (wire G) k ≡ Some y → Sorted heard released
           → SomeBoard the (q ∷ later)
@@ -90,10 +101,11 @@ module _ (the : Run) where
       by_place false released board y at (of_receiver h s far x one there) = absurd (false≢true h)
       by_place true true board y at (of_receiver h s far x one there) = absurd (false≢true (sym s))
       by_place true false board y at (of_receiver h s far x one there) =
-          some true asked true t (lets_go_now the later q fresh follows asked t far board (at_kept (on the later q fresh follows asked t true false board) k
-          (delivery the later q fresh follows asked t true false board) x one there))
+          some true asked true t (lets_go_now (record { the = the; later = later; q = q; fresh = fresh; follows = follows; asked = asked; t = t }) far board (at_kept (on
+          (record { the = the; later = later; q = q; fresh = fresh; follows = follows; asked = asked; t = t }) true false board) k
+          (delivery (record { the = the; later = later; q = q; fresh = fresh; follows = follows; asked = asked; t = t }) true false board) x one there))
       by_place false released board y at (itself h s far there) = absurd (false≢true h)
-      by_place true released board y at (itself h s far there) = some true asked released t (packet_comes the later q fresh follows asked t far released board there)
+      by_place true released board y at (itself h s far there) = some true asked released t (packet_comes (record { the = the; later = later; q = q; fresh = fresh; follows = follows; asked = asked; t = t }) far released board there)
 
     next_board : SomeBoard the later → SomeBoard the (q ∷ later)
     next_board b = by (slice_get_cases (wire G) k).1 where
@@ -111,7 +123,7 @@ module _ (the : Run) where
 
   boards : (later : List Full) → Grown p.lab (after the later) → AreFresh r later → SomeBoard the [] → SomeBoard the later
   boards [] g fresh board = board
-  boards (q ∷ later) g fresh board = next_board later q fresh.0 g.0 (boards later g.1 fresh.1 board)
+  boards (q ∷ later) g fresh board = next_board (record { later = later; q = q; fresh = fresh.0; follows = g.0 }) (boards later g.1 fresh.1 board)
 
   -- so many deliveries are the most
   pub few : (later : List Full) → Grown p.lab (after the later) → AreFresh r later → SomeBoard the [] → length later ≤ 5 + length (kept the)

@@ -107,14 +107,26 @@ module _ (s : Settings) (j : Journal) (n : ℕ) (own peer : Ip6) (at : Ep) (may 
       → Refuses (client_in s j n (server_ep s.primary) x w)
   unfolding standing_at
   refuses_it x reads bubble w =
-      subst Refuses (sym (entry_here s j n (server_ep s.primary) x told reads w fate.Barred
+      subst Refuses (sym (entry_here s j n (server_ep s.primary) x told reads w
       (refused (seen_here s j n (server_ep s.primary) x told reads) (advert_row s (standing_at s j n peer).qualification (server_ep s.primary) told)
       (too_soon bubble))))
       (record { barred = refl; sends = refl; about = refl; moment = refl })
 
 -- WHAT IT LEAVES
 
-module _ (s : Settings) (j : Journal) (n : ℕ) (peer : Ip6) (e : Entry) (barred : e.step.fate ≡ fate.Barred) (moment : e.moment ≡ n) where
+-- an entry by which the client is barred for a peer
+pub record BarredEntry : Type 0 where
+  pub s : Settings
+  pub j : Journal
+  pub n : ℕ
+  pub peer : Ip6
+  pub e : Entry
+  pub barred : e.step.fate ≡ fate.Barred
+  pub moment : e.moment ≡ n
+
+module _ (barred_entry : BarredEntry) where
+  open barred_entry use {s, j, n, peer, e, barred, moment}
+
   none : (mention e).bearing ≡ no_bearing
   none = ap (λ (f : Fate). bearing_of f e) barred
 

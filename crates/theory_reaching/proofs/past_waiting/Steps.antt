@@ -50,10 +50,10 @@ module _ (the : OnFooting) (k : ℕ) (d : Delivery the.p.lab the.H the.q k) wher
   next_is calm moment = record { follows = follows; calm = calm; moment = moment }
 
   far_sender : IsElsewhere lab (embedded a.own).ip (nats_of lab b.c)
-  far_sender = elsewhere lab is.rules b a is.receiver is.sender (λ same. is.apart (sym same))
+  far_sender = elsewhere (record { lab = lab; is = is.rules; a = b; b = a; an = is.receiver; bn = is.sender }) (λ same. is.apart (sym same))
 
   far_receiver : IsElsewhere lab (embedded b.own).ip (nats_of lab a.c)
-  far_receiver = elsewhere lab is.rules a b is.sender is.receiver is.apart
+  far_receiver = elsewhere (record { lab = lab; is = is.rules; a = a; b = b; an = is.sender; bn = is.receiver }) is.apart
 
   -- WHERE IT COMES
 
@@ -64,7 +64,7 @@ module _ (the : OnFooting) (k : ℕ) (d : Delivery the.p.lab the.H the.q k) wher
     node = client b.c;
     item = udp src (embedded b.own) x;
     at = at;
-    goes = to_client lab is.rules H b.n b.c src (embedded b.own) x is.receiver.there (to_receiver the src way);
+    goes = to_client lab is.rules H b.n x is.receiver.there (to_receiver the src way);
   })
 
   comes_to_sender : (x : List ℕ) → At H k (embedded b.own) (embedded a.own) x → Arrival lab H q a.n (client a.c) (udp (embedded b.own) (embedded a.own) x)
@@ -73,7 +73,7 @@ module _ (the : OnFooting) (k : ℕ) (d : Delivery the.p.lab the.H the.q k) wher
     node = client a.c;
     item = udp (embedded b.own) (embedded a.own) x;
     at = at;
-    goes = to_client lab is.rules H a.n a.c (embedded b.own) (embedded a.own) x is.sender.there (to_sender the (embedded b.own) ground.inward);
+    goes = to_client lab is.rules H a.n x is.sender.there (to_sender the (embedded b.own) ground.inward);
   })
 
   -- who did nothing keeps what it kept
@@ -129,15 +129,23 @@ module _ (the : OnFooting) (k : ℕ) (d : Delivery the.p.lab the.H the.q k) wher
       let came = comes_to_receiver (embedded a.own) x at ground.outward in
       let e : Entry = entry_of lab H (now H) b.n (embedded b.own) (arrived (embedded a.own) x) (client b.c) in
       let bubble = bubble_reads_back a.own b.own is.sender.address.of.sixteen is.receiver.address.of.sixteen in
-      let heard = hears_bubble (setup lab b) (journal b.n H) (now H) (bubble_of a.own b.own) is.receiver_meets forth (receiver_knows the)
-      (bubble_small a.own b.own) x bubble.payload bubble.bubble (words lab b.n H) in
-      let left = after_bubble (setup lab b) (journal b.n H) (now H) a.own e heard.about heard.moment x heard.came forth ground.receiver_keeps.trust
+      let heard = hears_bubble (record {
+        s = setup lab b;
+        j = journal b.n H;
+        n = now H;
+        p = bubble_of a.own b.own;
+        meets = is.receiver_meets;
+        trusted = forth;
+        knows = receiver_knows the;
+        small = bubble_small a.own b.own;
+      }) bubble.payload bubble.bubble (words lab b.n H) in
+      let left = after_bubble (record { s = setup lab b; j = journal b.n H; n = now H; peer = a.own; e = e; about = heard.about; moment = heard.moment }) x heard.came forth ground.receiver_keeps.trust
       heard.hears in
       record {
         left = receiver_did came.calm came.did.moment (on_way (embedded b.own) (embedded a.own) kept) e came.did [] true left.keeps left.address
             (receiver_releases the (embedded a.own) far_sender e came.did kept (heard.sends ∙ ap (releases (embedded a.own)) ground.receiver_keeps.waits));
         free = tried_then e came.did came.did.moment false
-            (unbarred_then (setup lab b) (journal b.n H) (now H) a.own e heard.about heard.moment forth heard.hears);
+            (unbarred_then (record { s = setup lab b; j = journal b.n H; n = now H; peer = a.own; e = e; about = heard.about; moment = heard.moment }) forth heard.hears);
       }
 
   -- THE INDIRECT ONE
@@ -163,7 +171,7 @@ module _ (the : OnFooting) (k : ℕ) (d : Delivery the.p.lab the.H the.q k) wher
         at = there;
         goes = to_server lab is.rules H b.c.server row (embedded a.own) (bubble_bytes a.own b.own) is.receiver.server_is;
       }) in
-      let made = server_tells.passes_on lab b is.receiver a.own (embedded a.own) (may_tell p is) H q (server_ep row.primary) came.did sound in
+      let made = server_tells.passes_on (record { lab = lab; a = b; end = is.receiver; peer = a.own; from = embedded a.own; may = may_tell p is }) H q (server_ep row.primary) came.did sound in
       let ja = other_journal lab H q b.c.server a.n came.did.node (no_server_node the a is.sender.there) in
       let jb = other_journal lab H q b.c.server b.n came.did.node (no_server_node the b is.receiver.there) in
       record {
@@ -205,10 +213,10 @@ module _ (the : OnFooting) (k : ℕ) (d : Delivery the.p.lab the.H the.q k) wher
       }) told_bytes told bubble.bubble (words lab b.n H) in
       record {
         left = receiver_did came.calm came.did.moment [] e came.did kept forth
-            (keeps_all (setup lab b) (journal b.n H) (now H) a.own e r.barred r.moment kept forth ground.receiver_keeps)
-            (refused.same_address (setup lab b) (journal b.n H) (now H) a.own e r.barred r.moment)
+            (keeps_all (record { s = setup lab b; j = journal b.n H; n = now H; peer = a.own; e = e; barred = r.barred; moment = r.moment }) kept forth ground.receiver_keeps)
+            (refused.same_address (record { s = setup lab b; j = journal b.n H; n = now H; peer = a.own; e = e; barred = r.barred; moment = r.moment }))
             (receiver_releases the (embedded a.own) far_sender e came.did [] r.sends);
-        tried = tried_then e came.did came.did.moment true (still_barred (setup lab b) (journal b.n H) (now H) a.own e r.barred r.moment tried);
+        tried = tried_then e came.did came.did.moment true (still_barred (record { s = setup lab b; j = journal b.n H; n = now H; peer = a.own; e = e; barred = r.barred; moment = r.moment }) tried);
       }
 
   -- and does where it isn't, and keeps nothing
@@ -228,8 +236,8 @@ module _ (the : OnFooting) (k : ℕ) (d : Delivery the.p.lab the.H the.q k) wher
         other = is.receiver_meets.other;
         room = ground.receiver_keeps.room;
         unbarred = free;
-      }) told_bytes told bubble.bubble (words lab b.n H) in
-      let left = after_indirect (setup lab b) (journal b.n H) (now H) a.own e answer.about answer.moment forth ground.receiver_keeps.trust answer.indirect
+      }) told bubble.bubble (words lab b.n H) in
+      let left = after_indirect (record { s = setup lab b; j = journal b.n H; n = now H; peer = a.own; e = e; about = answer.about; moment = answer.moment }) ground.receiver_keeps.trust answer.indirect
       (ground.receiver_keeps.waits ∙ none) in
       receiver_did came.calm came.did.moment (on_way (embedded b.own) (embedded a.own) (bubble_bytes b.own a.own ∷ [])) e came.did [] forth left.keeps left.address
       (receiver_releases the (embedded a.own) far_sender e came.did (bubble_bytes b.own a.own ∷ []) answer.sends)
@@ -248,9 +256,17 @@ module _ (the : OnFooting) (k : ℕ) (d : Delivery the.p.lab the.H the.q k) wher
       let came = comes_to_sender x at in
       let e : Entry = entry_of lab H (now H) a.n (embedded a.own) (arrived (embedded b.own) x) (client a.c) in
       let bubble = bubble_reads_back b.own a.own is.receiver.address.of.sixteen is.sender.address.of.sixteen in
-      let heard = hears_bubble (setup lab a) (journal a.n H) (now H) (bubble_of b.own a.own) is.sender_meets back (sender_knows the)
-      (bubble_small b.own a.own) x bubble.payload bubble.bubble (words lab a.n H) in
-      let left = after_bubble (setup lab a) (journal a.n H) (now H) b.own e heard.about heard.moment x heard.came back ground.sender_keeps.trust heard.hears in
+      let heard = hears_bubble (record {
+        s = setup lab a;
+        j = journal a.n H;
+        n = now H;
+        p = bubble_of b.own a.own;
+        meets = is.sender_meets;
+        trusted = back;
+        knows = sender_knows the;
+        small = bubble_small b.own a.own;
+      }) bubble.payload bubble.bubble (words lab a.n H) in
+      let left = after_bubble (record { s = setup lab a; j = journal a.n H; n = now H; peer = b.own; e = e; about = heard.about; moment = heard.moment }) x heard.came back ground.sender_keeps.trust heard.hears in
       record {
         left = sender_did came.calm came.did.moment (on_way (embedded a.own) (embedded b.own) waiting) e came.did [] true left.keeps left.address
             (sender_releases the (embedded b.own) far_receiver e came.did waiting (heard.sends ∙ ap (releases (embedded b.own)) ground.sender_keeps.waits));
@@ -262,8 +278,8 @@ module _ (the : OnFooting) (k : ℕ) (d : Delivery the.p.lab the.H the.q k) wher
   at_kept x is_one at =
       let came = comes_to_sender x at in
       let e : Entry = entry_of lab H (now H) a.n (embedded a.own) (arrived (embedded b.own) x) (client a.c) in
-      let over = hands_over (setup lab a) (journal a.n H) (now H) a.own b.own is.sender_meets back (sender_knows the) x is_one (words lab a.n H) in
-      let left = after_packet (setup lab a) (journal a.n H) (now H) b.own e over.about over.moment x over.came back ground.sender_keeps.trust over.over in
+      let over = hands_over (record { s = setup lab a; j = journal a.n H; n = now H; own = a.own; peer = b.own; meets = is.sender_meets; trusted = back; knows = sender_knows the; x = x; kept = is_one }) (words lab a.n H) in
+      let left = after_packet (record { s = setup lab a; j = journal a.n H; n = now H; peer = b.own; e = e; about = over.about; moment = over.moment }) x over.came back ground.sender_keeps.trust over.over in
       record {
         left = sender_did came.calm came.did.moment (on_way (embedded a.own) (embedded b.own) waiting) e came.did [] true left.keeps left.address
             (sender_releases the (embedded b.own) far_receiver e came.did waiting (over.sends ∙ ap (releases (embedded b.own)) ground.sender_keeps.waits));
@@ -282,9 +298,9 @@ module _ (the : OnFooting) (k : ℕ) (d : Delivery the.p.lab the.H the.q k) wher
   at_end at =
       let came = comes_to_receiver (embedded a.own) p.x at ground.outward in
       let e : Entry = entry_of lab H (now H) b.n (embedded b.own) (arrived (embedded a.own) p.x) (client b.c) in
-      let over = hands_over (setup lab b) (journal b.n H) (now H) b.own a.own is.receiver_meets forth (receiver_knows the) p.x (its_packet p is)
+      let over = hands_over (record { s = setup lab b; j = journal b.n H; n = now H; own = b.own; peer = a.own; meets = is.receiver_meets; trusted = forth; knows = receiver_knows the; x = p.x; kept = its_packet p is })
       (words lab b.n H) in
-      let left = after_packet (setup lab b) (journal b.n H) (now H) a.own e over.about over.moment p.x over.came forth ground.receiver_keeps.trust over.over in
+      let left = after_packet (record { s = setup lab b; j = journal b.n H; n = now H; peer = a.own; e = e; about = over.about; moment = over.moment }) p.x over.came forth ground.receiver_keeps.trust over.over in
       record {
         left = receiver_did came.calm came.did.moment (on_way (embedded b.own) (embedded a.own) kept) e came.did [] true left.keeps left.address
             (receiver_releases the (embedded a.own) far_sender e came.did kept (over.sends ∙ ap (releases (embedded a.own)) ground.receiver_keeps.waits));

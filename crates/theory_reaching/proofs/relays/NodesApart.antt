@@ -19,28 +19,28 @@ module _ (the : RelayedHosts) where
   server_is = (end the).server_is
 
   pub relay_client : k ≡ n → ⊥
-  relay_client = two_kinds lab.topology k n (relay r) (client c) is_relay_node relay_is are.client_is refl refl
+  relay_client = two_kinds lab.topology {i = k} {j = n} is_relay_node relay_is are.client_is refl refl
 
   pub client_relay : n ≡ k → ⊥
-  client_relay = two_kinds lab.topology n k (client c) (relay r) is_client_node are.client_is relay_is refl refl
+  client_relay = two_kinds lab.topology {i = n} {j = k} is_client_node are.client_is relay_is refl refl
 
   pub client_native : n ≡ m → ⊥
-  client_native = two_kinds lab.topology n m (client c) (native h) is_client_node are.client_is are.host_is refl refl
+  client_native = two_kinds lab.topology {i = n} {j = m} is_client_node are.client_is are.host_is refl refl
 
   pub relay_native : k ≡ m → ⊥
-  relay_native = two_kinds lab.topology k m (relay r) (native h) is_relay_node relay_is are.host_is refl refl
+  relay_native = two_kinds lab.topology {i = k} {j = m} is_relay_node relay_is are.host_is refl refl
 
   pub server_client : c.server ≡ n → ⊥
-  server_client same = two_kinds lab.topology n c.server (client c) (server row) is_client_node are.client_is server_is refl refl (sym same)
+  server_client same = two_kinds lab.topology is_client_node are.client_is server_is refl refl (sym same)
 
   pub server_relay : c.server ≡ k → ⊥
-  server_relay same = two_kinds lab.topology k c.server (relay r) (server row) is_relay_node relay_is server_is refl refl (sym same)
+  server_relay same = two_kinds lab.topology is_relay_node relay_is server_is refl refl (sym same)
 
   pub native_relay : m ≡ k → ⊥
-  native_relay = two_kinds lab.topology m k (native h) (relay r) is_native_node are.host_is relay_is refl refl
+  native_relay = two_kinds lab.topology {i = m} {j = k} is_native_node are.host_is relay_is refl refl
 
   pub native_client : m ≡ n → ⊥
-  native_client = two_kinds lab.topology m n (native h) (client c) is_native_node are.host_is are.client_is refl refl
+  native_client = two_kinds lab.topology {i = m} {j = n} is_native_node are.host_is are.client_is refl refl
 
   pub server_native : c.server ≡ m → ⊥
-  server_native same = two_kinds lab.topology m c.server (native h) (server row) is_native_node are.host_is server_is refl refl (sym same)
+  server_native same = two_kinds lab.topology is_native_node are.host_is server_is refl refl (sym same)

@@ -47,28 +47,28 @@ module _ (the : RelayedHosts) where
   beside = record { rules = are.rules; end = end; there = relay_there }
 
   pub reachable : is_reachable Strict own ≡ true
-  reachable = endpoint.reachable lab c_side h.relay r beside
+  reachable = endpoint.reachable beside
 
   pub relay_keeps : IsRelayNode r
-  relay_keeps = endpoint.relay_keeps lab c_side h.relay r beside
+  relay_keeps = endpoint.relay_keeps beside
 
   pub native_keeps : IsNativeNode lab.topology h
   native_keeps = each_node lab.topology m (native h) are.rules are.host_is
 
   -- its endpoint isn't that of the client's server
   pub no_primary : same_ip r.at.ip end.server_row.primary ≡ false
-  no_primary = endpoint.no_primary lab c_side h.relay r beside
+  no_primary = endpoint.no_primary beside
 
   pub no_secondary : same_ip r.at.ip end.server_row.secondary ≡ false
-  no_secondary = endpoint.no_secondary lab c_side h.relay r beside
+  no_secondary = endpoint.no_secondary beside
 
   pub no_server : is_from_server (client_settings lab.topology c) r.at ≡ false
   no_server = from_no_server lab c_side end r.at no_primary no_secondary
 
   -- nor at a NAT of the client's way
   pub relay_elsewhere : IsElsewhere lab r.at.ip (nats_of lab c)
-  relay_elsewhere = endpoint.relay_elsewhere lab c_side h.relay r beside
+  relay_elsewhere = endpoint.relay_elsewhere beside
 
   -- nor that which the client's address embeds
   pub no_loop : same_ip (embedded own).ip r.at.ip ≡ false
-  no_loop = endpoint.no_loop lab c_side h.relay r beside
+  no_loop = endpoint.no_loop beside

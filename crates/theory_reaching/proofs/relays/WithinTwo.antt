@@ -137,7 +137,7 @@ module _ (h : NativeNode) (c : ClientNode) (the : NextPacket (native h) (client 
       }) way known.1 later g fresh
 
 pub two_is_kept : KeepsItsPromise word.Within2
-two_is_kept lab H is chained q later n m a b x g at to said sent fresh = by (said_by lab H n m word.Within2 a b at to said) where
+two_is_kept lab H is chained q later n m a b x g at to said sent fresh = by (said_by (record { lab = lab; H = H; n = n; m = m; said = word.Within2 }) a b at to said) where
   the : NextPacket a b
   the = record { lab = lab; H = H; is = is; chained = chained; q = q; later = later; n = n; m = m; x = x; g = g; at = at; to = to; sent = sent; fresh = fresh }
 

@@ -64,9 +64,23 @@ module _ (lab : Lab) (c d : ClientNode) (apart : WaysApart lab c d) where
     by false e ih = ih
     by true e ih = let same : p.nat ≡ k = grind (arith, nat_tests) in absurd (not_on k leads (subst (Contains (nats_of lab c)) same all.0))
 
-module _ (lab : Lab) (H : List Full) (q : Full) (n : ℕ) (c d : ClientNode) (apart : WaysApart lab c d) (node : q.node ≡ Some n)
-    (there : client_at lab.topology n ≡ Some c) (keeps : KeepsToItsWay lab q)
-    (nats : (k : ℕ) → (q.node ≡ Some k → ⊥) → outs_at k q.passed ≡ [] → nat_history lab k (q ∷ H) ≡ nat_history lab k H) where
+-- a record of a client whose way lies apart from another one's
+pub record ApartRecord : Type 0 where
+  pub lab : Lab
+  pub H : List Full
+  pub q : Full
+  pub n : ℕ
+  pub c : ClientNode
+  pub d : ClientNode
+  pub apart : WaysApart lab c d
+  pub node : q.node ≡ Some n
+  pub there : client_at lab.topology n ≡ Some c
+  pub keeps : KeepsToItsWay lab q
+  pub nats : (k : ℕ) → (q.node ≡ Some k → ⊥) → outs_at k q.passed ≡ [] → nat_history lab k (q ∷ H) ≡ nat_history lab k H
+
+module _ (apart_record : ApartRecord) where
+  open apart_record use {lab, H, q, n, c, d, apart, node, there, keeps, nats}
+
   its_way : way_from lab q.node ≡ nats_of lab c
   its_way = ap (λ (o : Option ℕ). way_from lab o) node ∙ ap (way_by lab) there
 

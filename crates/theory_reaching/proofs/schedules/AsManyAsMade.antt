@@ -26,7 +26,17 @@ none_of first (suc m) = let rest = none_of first m in omega (arith, rest)
 
 -- ONE MORE DELIVERY
 
-module _ (k first : ℕ) (q : Full) (later : List Full) (by : q.delivered ≡ Some k) where
+-- a record that delivers an entry, after others
+record DeliveryOf : Type 0 where
+  k : ℕ
+  first : ℕ
+  q : Full
+  later : List Full
+  by : q.delivered ≡ Some k
+
+module _ (delivery_of : DeliveryOf) where
+  open delivery_of use {k, first, q, later, by}
+
   it_delivers : (i : ℕ) → was_delivered i (q ∷ later) ≡ ((k == i) || was_delivered i later)
   it_delivers i = ap (λ (o : Option ℕ). is_number i o || was_delivered i later) by
 
@@ -98,7 +108,7 @@ module _ (lab : Lab) (H : List Full) (r : Full) where
       let before : length (wire (later ++ r ∷ H)) ≤ r.first + m = shorter (length (wire (later ++ r ∷ H))) (length (wire (q ∷ later ++ r ∷ H))) (r.first + m) more long in
       let within = on_wire lab (later ++ r ∷ H) q fresh.0.number g fresh.0.delivered in
       ap suc (as_many later m g.1 fresh.1 before)
-      ∙ sym (among fresh.0.number r.first q later fresh.0.delivered m fresh.0.new
+      ∙ sym (among (record { k = fresh.0.number; first = r.first; q = q; later = later; by = fresh.0.delivered }) m fresh.0.new
       (below fresh.0.number (length (wire (later ++ r ∷ H))) (r.first + m) within before) fresh.0.once) where
         shorter : (a b c : ℕ) → a ≤ b → b ≤ c → a ≤ c
         shorter a b c le most = omega (arith, le, most)

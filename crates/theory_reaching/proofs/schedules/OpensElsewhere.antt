@@ -87,7 +87,7 @@ module _ (the : SendsOnlyTo) where
       let then = nat_history lab k (q ∷ H) in
       let a = w.2 in
       let b = server.2 in
-      let f = still_way lab H q next k s server.0.port inside b in
+      let f = still_way lab H q next k b in
       let held_a = any_dst set.kind inside f.datagram.dst a.datagram.dst (live_after set then (now (q ∷ H))) both.0
       ∙ ap (λ (e : Ep). live_port set.kind e a.datagram.dst (live_after set then (now (q ∷ H)))) (sym a.left)
       ∙ counting_datagram_holds_its_port set then (now (q ∷ H)) past a.datagram a.counts ∙ ap (λ (p : ℕ). Some p) a.by_port in

@@ -13,4 +13,4 @@ stays_at lab i P G p a moment node apart = at_same_moment P G p i (journal i G) 
 -- where the client's requests went to is still let in
 pub way_still : (lab : Lab) (c : ClientNode) (own : Ip6) (G : List Full) (p : Full) → IsCalmNext lab G p
     → WayIn lab G (asks_at lab c) (nats_of lab c) c.inside (embedded own) → WayIn lab (p ∷ G) (asks_at lab c) (nats_of lab c) c.inside (embedded own)
-way_still lab c own G p next = still_in lab G p next (asks_at lab c) (nats_of lab c) c.inside (embedded own)
+way_still lab c own G p next = still_in G next (asks_at lab c) (nats_of lab c) c.inside (embedded own)

@@ -1,6 +1,6 @@
 -- A datagram that leaves from elsewhere than its packet's source says is a stray, and comes from no client's server. Where nobody answers neither a
 -- server nor a relay is.
-use Rattle.theory_reaching.proofs.Words.{Bool, ClientNode, Ep, HasServer, Ip4, Ip6, IsMadeItem, Lab, List, Node, Ok, Option, ServerNode, Some, [], address_at, answers_at, ap, client, client_is_there, client_settings, embedded, false, false_from_ne_true, false≢true, has_address, inl, inr, is_from, is_from_server, is_link_local, is_some, is_teredo, leaves_at, list_any, nat, nat_has, nat_set_up, node_at, nodes, now, or_left, or_right, outermost, same_ep, same_ep-self, same_ep-true, server, server_ep, set_up_past, slice_get, somebody_answers, speaks_to, subst, suc, sym, true, udp, unwrap_or, way_to, zero, ℕ, ◌||◌, ◌∙◌, ◌∷◌, ◌≡◌, ◌⊎◌}
+use Rattle.theory_reaching.proofs.Words.{Bool, ClientNode, Ep, HasServer, Ip4, Ip6, IsMadeItem, IsTopology, Lab, List, Node, Ok, Option, ServerNode, Some, [], address_at, answers_at, ap, client, client_is_there, client_settings, embedded, false, false_from_ne_true, false≢true, has_address, inl, inr, is_from, is_from_server, is_link_local, is_some, is_teredo, leaves_at, list_any, nat, nat_has, nat_set_up, node_at, nodes, now, or_left, or_right, outermost, same_ep, same_ep-self, same_ep-true, server, server_ep, set_up_past, slice_get, somebody_answers, speaks_to, subst, suc, sym, true, udp, unwrap_or, way_to, zero, ℕ, ◌||◌, ◌∙◌, ◌∷◌, ◌≡◌, ◌⊎◌}
 use Rattle.theory_reaching.proofs.strays.Stray.{IsStray}
 use Rattle.theory_reaching.proofs.Tests.{either}
 use Rattle.theory_reaching.proofs.strays.MovedOut as out
@@ -9,6 +9,35 @@ use Rattle.theory_reaching.proofs.strays.MovedOut.{Moving}
 abbrev is_nat : Node → Bool
 is_nat (nat a) = true
 is_nat _ = false
+
+-- what comes from the address of a client's NAT comes from no server
+module _ (lab : Lab) (c : ClientNode) (src : Ep) (rules : IsTopology lab.topology)
+    (external : src.ip ≡ (nat_set_up lab.topology (outermost lab c)).external) where
+  module _ (i : ℕ) (e : ClientNode) (there : node_at lab.topology i ≡ Some (client e)) where
+    abbrev its : HasServer lab.topology e
+    its = client_is_there.server_of lab.topology i e rules there
+
+    not_its : (ip : Ip4) → has_address ip (server its.row) ≡ true → src.ip ≡ ip → ⊥
+    not_its ip has same =
+        let one = nat_has lab c src.ip e.server rules external (record {
+          node = server its.row;
+          at = its.there;
+          has = subst (λ (z : Ip4). has_address z (server its.row) ≡ true) (sym same) has;
+        }) in
+        false≢true (sym (ap is_nat one.2))
+
+    pub from_a_nat : is_from_server (client_settings lab.topology e) src ≡ false
+    unfolding is_from_server
+    from_a_nat = false_from_ne_true (same_ep src (server_ep (client_settings lab.topology e).primary)
+        || same_ep src (server_ep (client_settings lab.topology e).secondary)) (λ h.
+        by (either (same_ep src (server_ep (client_settings lab.topology e).primary))
+        (same_ep src (server_ep (client_settings lab.topology e).secondary)) h)) where
+          by : (same_ep src (server_ep (client_settings lab.topology e).primary) ≡ true)
+              ⊎ (same_ep src (server_ep (client_settings lab.topology e).secondary) ≡ true) → ⊥
+          by (inl h) = not_its its.row.primary its.has_primary
+              (ap (λ (z : Ep). z.ip) (same_ep-true src (server_ep (client_settings lab.topology e).primary) h) ∙ its.primary)
+          by (inr h) = not_its its.row.secondary its.has_secondary
+              (ap (λ (z : Ep). z.ip) (same_ep-true src (server_ep (client_settings lab.topology e).secondary) h) ∙ its.secondary)
 
 module _ (the : Moving) where
   open the use {lab, H, q, n, c, x, z, D, is}
@@ -42,31 +71,8 @@ module _ (the : Moving) where
       leaves = leaves;
     })
 
-    module _ (i : ℕ) (e : ClientNode) (there : node_at lab.topology i ≡ Some (client e)) where
-      abbrev its : HasServer lab.topology e
-      its = client_is_there.server_of lab.topology i e is.rules there
-
-      not_its : (ip : Ip4) → has_address ip (server its.row) ≡ true → src.ip ≡ ip → ⊥
-      not_its ip has same =
-          let one = nat_has lab c src.ip e.server is.rules external (record {
-            node = server its.row;
-            at = its.there;
-            has = subst (λ (z : Ip4). has_address z (server its.row) ≡ true) (sym same) has;
-          }) in
-          false≢true (sym (ap is_nat one.2))
-
-      pub no_server : is_from_server (client_settings lab.topology e) src ≡ false
-      unfolding is_from_server
-      no_server = false_from_ne_true (same_ep src (server_ep (client_settings lab.topology e).primary)
-          || same_ep src (server_ep (client_settings lab.topology e).secondary)) (λ h.
-          by (either (same_ep src (server_ep (client_settings lab.topology e).primary))
-          (same_ep src (server_ep (client_settings lab.topology e).secondary)) h)) where
-            by : (same_ep src (server_ep (client_settings lab.topology e).primary) ≡ true)
-                ⊎ (same_ep src (server_ep (client_settings lab.topology e).secondary) ≡ true) → ⊥
-            by (inl h) = not_its its.row.primary its.has_primary
-                (ap (λ (z : Ep). z.ip) (same_ep-true src (server_ep (client_settings lab.topology e).primary) h) ∙ its.primary)
-            by (inr h) = not_its its.row.secondary its.has_secondary
-                (ap (λ (z : Ep). z.ip) (same_ep-true src (server_ep (client_settings lab.topology e).secondary) h) ∙ its.secondary)
+    pub no_server : (i : ℕ) (e : ClientNode) → node_at lab.topology i ≡ Some (client e) → is_from_server (client_settings lab.topology e) src ≡ false
+    no_server = from_a_nat lab c src is.rules external
 
 -- WHO IS THERE
 

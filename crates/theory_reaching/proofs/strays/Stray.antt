@@ -77,7 +77,7 @@ module _ (s : Settings) (j : Journal) (n : ℕ) (is : IsJournal s j) (from : Ep)
 
   pub at_client : (w : Words) → IsNothing (client_in s j n from x w).step
   at_client w = subst (λ (e : Entry). IsNothing e.step)
-      (sym (entry_here s j n from x v stray.reads w row refl ∙ ap (entry n (arrived from x) (packet_in x) (Some peer) w)
+      (sym (entry_here s j n from x v stray.reads w {f = row} refl ∙ ap (entry n (arrived from x) (packet_in x) (Some peer) w)
       (is_idle.step s (standing_at s j n peer) from x v w)))
       (record { sends = refl; six = refl; handed = refl; late = refl })
 
@@ -112,7 +112,7 @@ module _ (s : Settings) (j : Journal) (n : ℕ) (from : Ep) (x : List ℕ) (no_s
 
   pub at_another : (w : Words) → IsNothing (client_in s j n from x w).step
   at_another w = subst (λ (e : Entry). IsNothing e.step)
-      (sym (entry_here s j n from x whole reads_it w its_row refl ∙ ap (entry n (arrived from x) (packet_in x) (Some sender) w)
+      (sym (entry_here s j n from x whole reads_it w {f = its_row} refl ∙ ap (entry n (arrived from x) (packet_in x) (Some sender) w)
       (not_mine.step s (standing_at s j n sender) from x whole w)))
       (record { sends = refl; six = refl; handed = refl; late = refl })
 
@@ -124,6 +124,6 @@ mismatched a payload keyed big teredo elsewhere = rw (payload, keyed, big, tered
 
 pub at_relay : (s : RelaySettings) (j : List Entry) (n : ℕ) (from : Ep) (x : List ℕ) → IsStray from x → IsNothing (relay_in s j n from x).step
 at_relay s j n from x stray =
-    subst (λ (e : Entry). IsNothing e.step) (sym (entry_in s j n from x (value_written None None (fields_in x)) stray.reads fate.Mismatch
+    subst (λ (e : Entry). IsNothing e.step) (sym (entry_in s j n from x (value_written None None (fields_in x)) stray.reads
     (mismatched (seen_at_relay s j n from x (value_written None None (fields_in x)) stray.reads) refl (unkeyed (fields_in x)) stray.short stray.teredo
     stray.elsewhere))) (record { sends = refl; six = refl; handed = refl; late = refl })

@@ -48,13 +48,13 @@ held_back a = past_opening (λ (r : Reach). is_barred_word r ≡ true → IsHeld
 pub barred_is_kept : KeepsToNatives word.Barred
 unfolding relayed
 barred_is_kept lab H is chained q later n m c h x g at to said sent fresh =
-    let s = of_client_and_native lab H n m word.Barred IsHeldBack (λ a w. held_back a (ap is_barred_word w)) c h at to said in
+    let s = of_client_and_native (record { lab = lab; H = H; n = n; m = m; said = word.Barred }) IsHeldBack (λ a w. held_back a (ap is_barred_word w)) c h at to said in
     of s.0 s.1 s.2 where
       goes : GoesOutwards lab H q later n m c h x
       goes = record { rules = is; chained = chained; grown = g; client_is = at; host_is = to; sent = sent; fresh = fresh }
 
       asking : (r : RelayNode) → relay_at lab.topology h.relay ≡ Some r → IsHeldBack (relayed lab H n c h r) → IsAsking lab H q n m c h r x
-      asking r through s = outwards.asking lab H q later n m c h x goes r through s.settled s.stale
+      asking r through s = outwards.asking (record { lab = lab; H = H; q = q; later = later; n = n; m = m; c = c; h = h; x = x; goes = goes }) r through s.settled s.stale
 
       -- the relay must ask, and is barred for the client, or the client for it
       unasked : (r : RelayNode) → IsAsking lab H q n m c h r x

@@ -51,13 +51,13 @@ crowded a = past_opening (λ (r : Reach). is_full_word r ≡ true → IsCrowded 
 pub full_is_kept : KeepsToNatives word.Full
 unfolding relayed
 full_is_kept lab H is chained q later n m c h x g at to said sent fresh =
-    let s = of_client_and_native lab H n m word.Full IsCrowded (λ a w. crowded a (ap is_full_word w)) c h at to said in
+    let s = of_client_and_native (record { lab = lab; H = H; n = n; m = m; said = word.Full }) IsCrowded (λ a w. crowded a (ap is_full_word w)) c h at to said in
     of s.0 s.1 s.2 where
       goes : GoesOutwards lab H q later n m c h x
       goes = record { rules = is; chained = chained; grown = g; client_is = at; host_is = to; sent = sent; fresh = fresh }
 
       asking : (r : RelayNode) → relay_at lab.topology h.relay ≡ Some r → IsCrowded (relayed lab H n c h r) → IsAsking lab H q n m c h r x
-      asking r through s = outwards.asking lab H q later n m c h x goes r through s.settled s.stale
+      asking r through s = outwards.asking (record { lab = lab; H = H; q = q; later = later; n = n; m = m; c = c; h = h; x = x; goes = goes }) r through s.settled s.stale
 
       -- the relay has no room for the client, so it neither trusts nor lists it
       relay_full : (r : RelayNode) → IsAsking lab H q n m c h r x → has_room (clients_of H h.relay) (now H) (address_at lab H n) ≡ false

@@ -48,7 +48,7 @@ goes_away a = by_lines (λ (r : Reach). is_moved r ≡ true → GoesAway a) (ope
 pub moved_is_kept : KeepsToNatives word.Moved
 unfolding relayed
 moved_is_kept lab H is chained q later n m c h x g at to said sent fresh =
-    let s = of_client_and_native lab H n m word.Moved (λ a. GoesAway a) (λ a w. goes_away a (ap is_moved w)) c h at to said in
+    let s = of_client_and_native (record { lab = lab; H = H; n = n; m = m; said = word.Moved }) (λ a. GoesAway a) (λ a w. goes_away a (ap is_moved w)) c h at to said in
     by s.0 s.1 s.2.on s.2.gone where
       by : (r : RelayNode) → relay_at lab.topology h.relay ≡ Some r → is_on lab H n c ≡ true
           → ((is_fresh (now H) (known_by H n h.six) ≡ true) × (is_trusted_at r.at (known_by H n h.six) ≡ true) × (speaks_to lab H c (address_at lab H n) r.at ≡ false))

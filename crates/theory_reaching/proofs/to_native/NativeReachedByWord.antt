@@ -61,9 +61,24 @@ passes_out a = past_opening (λ (r : Reach). is_tested r ≡ true → PassesOut 
 
 -- WHAT THE THREE ARE
 
+-- a client, a native host and its relay after a whole history
+pub record ReachedThrough : Type 0 where
+  pub lab : Lab
+  pub H : List Full
+  pub whole : IsWhole lab H
+  pub n : ℕ
+  pub m : ℕ
+  pub c : ClientNode
+  pub h : NativeNode
+  pub r : RelayNode
+  pub at : node_at lab.topology n ≡ Some (client c)
+  pub to : node_at lab.topology m ≡ Some (native h)
+  pub through : relay_at lab.topology h.relay ≡ Some r
+
 -- node n is the client c, and node m the native h, whose relay is r
-module _ (lab : Lab) (H : List Full) (whole : IsWhole lab H) (n m : ℕ) (c : ClientNode) (h : NativeNode) (r : RelayNode)
-    (at : node_at lab.topology n ≡ Some (client c)) (to : node_at lab.topology m ≡ Some (native h)) (through : relay_at lab.topology h.relay ≡ Some r) where
+module _ (reached_through : ReachedThrough) where
+  open reached_through use {lab, H, whole, n, m, c, h, r, at, to, through}
+
   abbrev own : Ip6
   own = address_at lab H n
 
@@ -72,7 +87,7 @@ module _ (lab : Lab) (H : List Full) (whole : IsWhole lab H) (n m : ℕ) (c : Cl
     may_ask : must_ask H h.relay own ≡ true → MayAskClient H n h.relay own h.six r.six
     may_ask =
         let w = relayed lab H n c h r in
-        asks lab H n m c h r at to through whole (or_parts w.barred (w.asks && w.bubble_barred) p.unbarred).1
+        asks (record { lab = lab; H = H; n = n; m = m; c = c; h = h; r = r; at = at; to = to; through = through }) whole (or_parts w.barred (w.asks && w.bubble_barred) p.unbarred).1
         (or_parts (not w.room) (w.asks && not w.room_for_both) p.room).1
 
     -- nothing waits for the client at the relay: it trusts the client, the client has the cone bit, or the line says so
@@ -100,7 +115,7 @@ module _ (lab : Lab) (H : List Full) (whole : IsWhole lab H) (n m : ℕ) (c : Cl
           through = refl;
           relay = relay_is_there lab.topology h.relay r through;
           settled = settled_along lab H n c at p.settled;
-          let_in = opened lab H n m c h r at to through p.let_in;
+          let_in = opened (record { lab = lab; H = H; n = n; m = m; c = c; h = h; r = r; at = at; to = to; through = through }) p.let_in;
           host_room = rooms.0;
           client_room = rooms.1;
           stale = p.stale;

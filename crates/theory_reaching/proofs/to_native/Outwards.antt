@@ -14,8 +14,22 @@ pub record GoesOutwards (lab : Lab) (H : List Full) (q : Full) (later : List Ful
   pub sent : IsSentNext lab H q n m (client c) x
   pub fresh : AreFresh q later
 
-module _ (lab : Lab) (H : List Full) (q : Full) (later : List Full) (n m : ℕ) (c : ClientNode) (h : NativeNode) (x : List ℕ)
-    (goes : GoesOutwards lab H q later n m c h x) where
+-- a packet that goes out to a native host
+pub record GoingOut : Type 0 where
+  pub lab : Lab
+  pub H : List Full
+  pub q : Full
+  pub later : List Full
+  pub n : ℕ
+  pub m : ℕ
+  pub c : ClientNode
+  pub h : NativeNode
+  pub x : List ℕ
+  pub goes : GoesOutwards lab H q later n m c h x
+
+module _ (going_out : GoingOut) where
+  open going_out use {lab, H, q, later, n, m, c, h, x, goes}
+
   pub there : Grown lab (q ∷ H)
   there = earlier lab later (q ∷ H) goes.grown
 

@@ -30,10 +30,10 @@ no_own_test q own host x e did none is =
 pub none_of_fresh : (lab : Lab) (H : List Full) (q : Full) (later : List Full) (n m : ℕ) (c : ClientNode) (h : NativeNode) (x : List ℕ)
     → GoesOutwards lab H q later n m c h x → is_fresh (now H) (known_by H n h.six) ≡ true → IsOwnTest q (fields_in x).src h.six x → ⊥
 none_of_fresh lab H q later n m c h x goes fresh =
-    let handed = outwards.handed lab H q later n m c h x goes in
+    let handed = outwards.handed (record { lab = lab; H = H; q = q; later = later; n = n; m = m; c = c; h = h; x = x; goes = goes }) in
     let hand = handed_in.hand lab H q n (client c) x (record {
       rules = goes.rules;
-      grown = outwards.there lab H q later n m c h x goes;
+      grown = outwards.there (record { lab = lab; H = H; q = q; later = later; n = n; m = m; c = c; h = h; x = x; goes = goes });
       there = goes.client_is;
       own = address_at lab H n;
       other = h.six;

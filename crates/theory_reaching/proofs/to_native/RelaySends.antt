@@ -28,9 +28,9 @@ module _ (s : RelaySettings) (j : List Entry) (n : ℕ) (x : List ℕ) (is : IsO
 
   pub passes_it_on : PassesOn x from (relay_in s j n from x)
   unfolding relay_standing_at
-  passes_it_on = subst (PassesOn x from) (sym (entry_in s j n from x v is.reads fate.FromClient
+  passes_it_on = subst (PassesOn x from) (sym (entry_in s j n from x v is.reads
       (packet_goes_on (seen_here s j n from x v is.reads) (record {
-        peer = of_peer s j n x (fields_in x) is.reads is.short is.teredo is.listed;
+        peer = of_peer (record { s = s; j = j; n = n; x = x; p = fields_in x; reads = is.reads }) is.short is.teredo is.listed;
         no_bubble = is.plain;
         served = is.served;
       }))))

@@ -52,7 +52,7 @@ why_stale a = past_opening (λ (r : Reach). is_stale r ≡ true → IsForgotten 
 pub stale_is_kept : KeepsToNatives word.Stale
 unfolding relayed
 stale_is_kept lab H is chained q later n m c h x g at to said sent fresh =
-    let s = of_client_and_native lab H n m word.Stale (λ a. IsForgotten a ⊎ IsShutOff a) (λ a w. why_stale a (ap is_stale w)) c h at to said in
+    let s = of_client_and_native (record { lab = lab; H = H; n = n; m = m; said = word.Stale }) (λ a. IsForgotten a ⊎ IsShutOff a) (λ a w. why_stale a (ap is_stale w)) c h at to said in
     of s.0 s.1 s.2 where
       goes : GoesOutwards lab H q later n m c h x
       goes = record { rules = is; chained = chained; grown = g; client_is = at; host_is = to; sent = sent; fresh = fresh }
@@ -76,10 +76,10 @@ stale_is_kept lab H is chained q later n m c h x g at to said sent fresh =
               r = r;
               x = x;
               sent_out = record {
-                are = outwards.are_relayed lab H q later n m c h x goes r through s.settled;
-                grown = outwards.there lab H q later n m c h x goes;
-                handed = outwards.handed lab H q later n m c h x goes;
-                sound = outwards.sound lab H q later n m c h x goes;
+                are = outwards.are_relayed (record { lab = lab; H = H; q = q; later = later; n = n; m = m; c = c; h = h; x = x; goes = goes }) r through s.settled;
+                grown = outwards.there (record { lab = lab; H = H; q = q; later = later; n = n; m = m; c = c; h = h; x = x; goes = goes });
+                handed = outwards.handed (record { lab = lab; H = H; q = q; later = later; n = n; m = m; c = c; h = h; x = x; goes = goes });
+                sound = outwards.sound (record { lab = lab; H = H; q = q; later = later; n = n; m = m; c = c; h = h; x = x; goes = goes });
                 fresh = first.0;
                 trusted = second.0;
               };
@@ -88,6 +88,6 @@ stale_is_kept lab H is chained q later n m c h x g at to said sent fresh =
       of r through (inr s) =
           let w = relayed lab H n c h r in
           let shut = and_parts w.trusts (not w.let_in) s.shut in
-          let asking = outwards.asking lab H q later n m c h x goes r through s.settled s.stale in
+          let asking = outwards.asking (record { lab = lab; H = H; q = q; later = later; n = n; m = m; c = c; h = h; x = x; goes = goes }) r through s.settled s.stale in
           none_but_the_test (record { lab = lab; H = H; q = q; n = n; m = m; c = c; h = h; r = r; x = x; asks = asking }) later g fresh
           (λ no_test. asks.none_come (record { lab = lab; H = H; q = q; n = n; m = m; c = c; h = h; r = r; x = x; asks = asking }) shut.0 (failed w.let_in shut.1) no_test later g fresh)

@@ -20,8 +20,16 @@ module _ (the : AskingHost) where
     abbrev delivery : Delivery lab G p serial
     delivery = deliveries lab G p serial g delivered
 
-    module _ (z : List ℕ) (is : y ≡ six (Some h.relay) z) (to_own : (fields_in z).dst ≡ own)
-        (trusted : is_some (known (relay_mentions (journal h.relay G).entries) (now G) own).trusted ≡ true) where
+    -- the native host's answer at a relay that trusts the client
+    pub record AnswerToTest : Type 0 where
+      pub z : List ℕ
+      pub is : y ≡ six (Some h.relay) z
+      pub to_own : (fields_in z).dst ≡ own
+      pub trusted : is_some (known (relay_mentions (journal h.relay G).entries) (now G) own).trusted ≡ true
+
+    module _ (answer_to_test : AnswerToTest) where
+      open answer_to_test use {z, is, to_own, trusted}
+
       pub to_relay : Arrival lab G p h.relay (relay r) (six (Some h.relay) z)
       to_relay = arrival lab G p serial delivery (record {
         number = h.relay;

@@ -113,7 +113,7 @@ module _ (the : AskingHost) where
       -- each entry that it makes is such as its reply for the client is
       pub answered : (P : Item → Type 0) → ((z : List ℕ) → (fields_in z).dst ≡ own → P (six (Some h.relay) z)) → AllByRecursion P (filter_map item_in p.made)
       answered P such = subst (λ (ms : List Made). AllByRecursion P (filter_map item_in ms)) (sym (
-          native_echoes lab G p m h its_test to_host.did reply (native_answers own h.six sixteen host_sixteen nonce
+          native_echoes (record { lab = lab; H = G; q = p; m = m; h = h; x = its_test }) to_host.did reply (native_answers own h.six sixteen host_sixteen nonce
           (end the_three).address.of.global) (ap is_teredo goes_back ∙ teredo the)))
           (such reply goes_back, tt)
 

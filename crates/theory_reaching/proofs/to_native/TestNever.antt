@@ -36,7 +36,7 @@ module _ (the : AskingHost)
       let e = end the_three in
       let step = next the in
       let to_asks : server_ep e.server_row.primary ≡ asks_at lab c = ap server_ep (sym e.primary) in
-      shut_before the trusts led no_request (enters_along lab H asks.are.grown r.at (nats_of lab c) c.inside (embedded own)
+      shut_before (record { the = the; trusts = trusts; led = led; no_request = no_request }) (enters_along lab H asks.are.grown r.at (nats_of lab c) c.inside (embedded own)
       (was_let_in (record {
         lab = lab;
         H = H;
@@ -55,7 +55,7 @@ module _ (the : AskingHost)
       apart same = false≢true (sym (no_primary the_three)
           ∙ ap (same_ip r.at.ip) (sym (end the_three).primary ∙ sym same) ∙ same_ip-self r.at.ip)
 
-  at_first : IsShutOff the trusts led no_request (q ∷ H)
+  at_first : IsShutOff (record { the = the; trusts = trusts; led = led; no_request = no_request }) (q ∷ H)
   at_first =
       let step = next the in
       record {
@@ -63,13 +63,13 @@ module _ (the : AskingHost)
             (other_journal lab H q n k (did the).node
             (client_relay the_three)) trusts;
         shut = shut_then;
-        way = still_in lab H q step (asks_at lab c) (nats_of lab c) c.inside (embedded own)
+        way = still_in H step (asks_at lab c) (nats_of lab c) c.inside (embedded own)
             (way the_three);
       }
 
   -- so no delivery brings it
   pub none_come : NoneBrings lab H q m (native h) x
-  none_come = none_brings lab H q m (native h) x IsIt (IsShutOff the trusts led no_request)
+  none_come = none_brings lab H q m (native h) x IsIt (IsShutOff (record { the = the; trusts = trusts; led = led; no_request = no_request }))
       (λ this sound is off.
-      step the trusts led no_request this off is) (number the)
+      step (record { the = the; trusts = trusts; led = led; no_request = no_request }) this off is) (number the)
       (all_on_way the) at_first

@@ -51,17 +51,29 @@ module _ (the : AskingHost) where
   carries = echoes.test_carries own h.six sixteen host_sixteen nonce
 
   may : MayTell lab (ends.end the_three).server_row r.six r.at
-  may = endpoint.may_tell lab (c_side the_three) h.relay r
+  may = endpoint.may_tell
       (beside the_three)
 
   -- what the client's address embeds is none of the server's addresses
   no_own : is_own s (embedded own).ip ≡ false
-  no_own = server_tells.no_own lab (c_side the_three)
-      (ends.end the_three) r.six r.at may
+  no_own = server_tells.no_own (record {
+    lab = lab;
+    a = c_side the_three;
+    end = ends.end the_three;
+    peer = r.six;
+    from = r.at;
+    may = may;
+  })
 
   server_made : IsEp (server_ep row.primary)
-  server_made = server_tells.server_made lab (c_side the_three)
-      (ends.end the_three) r.six r.at may
+  server_made = server_tells.server_made (record {
+    lab = lab;
+    a = c_side the_three;
+    end = ends.end the_three;
+    peer = r.six;
+    from = r.at;
+    may = may;
+  })
 
   native_is : is_teredo h.six ≡ false
   native_is = out.native_is the

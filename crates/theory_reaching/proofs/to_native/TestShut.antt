@@ -12,9 +12,15 @@ use Rattle.theory_reaching.proofs.schedules.Throughout.{Goes, OneDelivery}
 use Rattle.theory_reaching.proofs.to_native.TestUnlike.{IsNoTest, same_item, silent}
 use Rattle.theory_reaching.proofs.relays.Relays.{RelayedHosts}
 
-module _ (the : AskingHost)
-    (trusts : is_some (known (relay_mentions (journal the.h.relay the.H).entries) (now the.H) (address_at the.lab the.H the.n)).trusted ≡ true)
-    (led : is_led_to the.lab the.H the.r.at (embedded (address_at the.lab the.H the.n)) the.n ≡ false) (no_request : IsNoTest the.lab the.H the.n the.h the.x) where
+-- a test whose answer isn't let in
+pub record ShutTest : Type 0 where
+  pub the : AskingHost
+  pub trusts : is_some (known (relay_mentions (journal the.h.relay the.H).entries) (now the.H) (address_at the.lab the.H the.n)).trusted ≡ true
+  pub led : is_led_to the.lab the.H the.r.at (embedded (address_at the.lab the.H the.n)) the.n ≡ false
+  pub no_request : IsNoTest the.lab the.H the.n the.h the.x
+
+module _ (shut_test : ShutTest) where
+  open shut_test use {the, led, no_request}
   open the use {lab, H, q, n, m, c, h, r, x, asks}
 
   abbrev own : Ip6
@@ -41,7 +47,7 @@ module _ (the : AskingHost)
   pub shut_before : Enters H (now H) → ⊥
   unfolding is_led_to
   shut_before enters =
-      let goes = to_client lab asks.are.rules H n c r.at (embedded own) [] asks.are.client_is
+      let goes = to_client lab asks.are.rules H n [] asks.are.client_is
       (is_let_in lab H (now H) r.at (embedded own) n c asks.are.rules asks.are.chained there enters) in
       false≢true (sym led ∙ ap (ends_at n) goes ∙ same_number n)
 
@@ -74,7 +80,7 @@ module _ (the : AskingHost)
     stays j moment same later trusted = record {
       trusted = at_same_moment (λ (u : Journal) (t : ℕ). is_some (known (relay_mentions u.entries) t own).trusted ≡ true) G p k j moment later trusted;
       shut = λ enters. off.shut (entered_before lab G (p ∷ G) (now G) r.at (nats_of lab c) c.inside (embedded own) same (subst (Enters (p ∷ G)) moment enters));
-      way = still_in lab G p (record {
+      way = still_in {lab = lab} G {r = p} (record {
         follows = g.0;
         calm = leaves_nats lab G p serial (deliveries lab G p serial g delivered);
         moment = moment;
@@ -95,11 +101,16 @@ module _ (the : AskingHost)
 
     -- what the relay sends to the client comes to nobody
     to_no_node : (z : List ℕ) (j : ℕ) (a : Node) → route lab G (now G) (udp r.at (embedded own) z) ≡ reaches j a → ⊥
-    to_no_node z j a goes = by (comes_or_not lab G g.1 (asks_at lab c)
-        r.at (embedded own) c server_in) where
-          by : Comes lab G g.1 (asks_at lab c) r.at (embedded own) c → ⊥
-          by (let_in_too enters) = off.shut (enters_by_its_way lab G (now G) r.at (embedded own) c asks.are.chained enters)
-          by (shut_there b out) = false≢true (ap is_reached (sym (to_none lab asks.are.rules G r.at (embedded own) z b out) ∙ goes))
+    to_no_node z j a goes = by (comes_or_not (record {
+      lab = lab;
+      H = G;
+      g = g.1;
+      src = asks_at lab c;
+      other = r.at;
+    }) (embedded own) c server_in) where
+      by : Comes (record { lab = lab; H = G; g = g.1; src = asks_at lab c; other = r.at }) (embedded own) c → ⊥
+      by (let_in_too enters) = off.shut (enters_by_its_way lab G (now G) r.at (embedded own) c asks.are.chained enters)
+      by (shut_there b out) = false≢true (ap is_reached (sym (to_none lab asks.are.rules G r.at (embedded own) z b out) ∙ goes))
 
     goes_off : (z : List ℕ) → y ≡ udp r.at (embedded own) z → Result
     goes_off z is = by (deliveries lab G p serial g delivered) where
@@ -127,12 +138,12 @@ module _ (the : AskingHost)
           silent = silent the no_request this (tested is);
         }
     step (answering z is to_own) =
-        let d = (to_relay the this z is to_own off.trusted).did in
+        let d = (to_relay the this (record { z = z; is = is; to_own = to_own; trusted = off.trusted })).did in
         record {
-          made = made_at_relay the this z is to_own off.trusted;
-          stays = stays (with_entry (journal k G) (done the this z is to_own off.trusted)) d.moment
+          made = made_at_relay the this (record { z = z; is = is; to_own = to_own; trusted = off.trusted });
+          stays = stays (with_entry (journal k G) (done the this (record { z = z; is = is; to_own = to_own; trusted = off.trusted }))) d.moment
               (stay k (relay r) d.node d.passed relay_node refl) d.later
-              (still_trusted the this z is to_own off.trusted);
+              (still_trusted the this (record { z = z; is = is; to_own = to_own; trusted = off.trusted }));
           silent = silent the no_request this (answering z is to_own);
         }
     step (returning z is) = goes_off z is

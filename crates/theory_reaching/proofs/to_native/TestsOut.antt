@@ -116,11 +116,11 @@ module _ (the : AskingHost) where
       let e = end the_three in
       let s = c_side the_three in
       subst (λ (ip : Ip4). IsElsewhere lab ip (nats_of lab c)) (e.address.of.server_is ∙ e.primary)
-      (server_elsewhere lab are.rules s s e e)
+      (server_elsewhere (record { lab = lab; is = are.rules; a = s; b = s; an = e; bn = e }))
 
   -- so all that it sends leaves
   pub leaves : q.made ≡ map (λ (z : Send). sent (udp (embedded own) z.to z.bytes)) sends
-  leaves = (all_leaves lab H q (c_side the_three) done (record {
+  leaves = (all_leaves {lab = lab} {H = H} {q = q} {a = (c_side the_three)} {e = done} (record {
     end = end the_three;
     kinds = (along the_three).kinds;
     grown = are.grown;
@@ -151,5 +151,5 @@ module _ (the : AskingHost) where
       (each_so (λ z same. ap (λ (u : Send). u.to) same) sends all_tests) tt)
 
   pub grew : AllByRecursion (λ (k : ℕ). nat_history lab k (q ∷ H) ≡ outs_at k q.passed ++ nat_history lab k H) (nats_of lab c)
-  grew = each_so (λ k (on : IsOnWay lab k). ap (λ (b : Bool). cond b (at_nat lab q.asked q.act) (outs_at k q.passed) ++ nat_history lab k H) (not_of lab n (client c) are.client_is refl q did.node k on))
+  grew = each_so (λ k (on : IsOnWay lab k). ap (λ (b : Bool). cond b (at_nat lab q.asked q.act) (outs_at k q.passed) ++ nat_history lab k H) (not_of are.client_is refl q did.node on))
       (nats_of lab c) (end the_three).nats

@@ -30,7 +30,7 @@ module _ (c : ClientNode) (h : NativeNode) (the : NextPacket (client c) (native 
   unfolding relayed
   through r by_relay nine p =
       let comes = next_to_native_arrives lab H q later is chained g n m h.relay c h r (address_at lab H n) x (record {
-        nodes = native_reached lab H (whole the) n m c h r at to by_relay nine p;
+        nodes = native_reached (record { lab = lab; H = H; whole = whole the; n = n; m = m; c = c; h = h; r = r; at = at; to = to; through = by_relay }) nine p;
         handed = subst (λ (z : Ip6). HostHandsIn q n (address_at lab H n) z x) (ap (address_of lab H m) to) sent.handed;
       }) fresh in
       subst (λ (b : Bool). ComesInTime H q m (native h) x later (most_deliveries b)) p.asks (record {
@@ -52,7 +52,7 @@ promised lab H q m a b x later _ tested comes = absurd (false≢true tested)
 
 -- so a word that is kept of packets from native hosts is kept
 kept : (said : Reach) → is_tested said ≡ true → KeepsFromNatives said → KeepsItsPromise said
-kept said tested back lab H is chained q later n m a b x g at to is_said sent fresh = by (said_by lab H n m said a b at to is_said) where
+kept said tested back lab H is chained q later n m a b x g at to is_said sent fresh = by (said_by (record { lab = lab; H = H; n = n; m = m; said = said }) a b at to is_said) where
   the : NextPacket a b
   the = record { lab = lab; H = H; is = is; chained = chained; q = q; later = later; n = n; m = m; x = x; g = g; at = at; to = to; sent = sent; fresh = fresh }
 

@@ -96,7 +96,7 @@ module _ (the : SentOut) where
       }
 
   made : q.made ≡ sent (udp (embedded own) r.at x) ∷ []
-  made = (all_leaves lab H q (c_side the_three) (entry_of lab H (now H) n no_ep (given x) (client c)) (record {
+  made = (all_leaves {lab = lab} {H = H} {q = q} {a = (c_side the_three)} {e = (entry_of lab H (now H) n no_ep (given x) (client c))} (record {
     end = end the_three;
     kinds = (along the_three).kinds;
     grown = are.grown;
@@ -153,4 +153,4 @@ module _ (the : SentOut) where
         let it : PassesOn x (embedded own) (relay_in s (journal k G).entries (now G) (embedded own) x) =
         subst (λ (z : Ep). PassesOn x z (relay_in s (journal k G).entries (now G) z x)) from
         (passes_it_on s (journal k G).entries (now G) x (of_listed ready)) in
-        relay_passes lab G p k r (relay_in s (journal k G).entries (now G) (embedded own) x) came.did sound (embedded own) x it.sends it.six it.input
+        relay_passes came.did sound (embedded own) x it.sends it.six it.input

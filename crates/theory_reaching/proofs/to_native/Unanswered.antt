@@ -23,7 +23,14 @@ brings_nothing p n x handed late b = by b.packet where
   by (inl over) = false≢true (ap (λ (o : Option (List ℕ)). is_some o) (sym handed ∙ over))
   by (inr one) = nowhere (subst (λ (xs : List (List ℕ)). Contains xs x) late one)
 
-module _ (the : RelayedHosts) (hushed : Bool) (plain : hushed ≡ false → has_cone (address_at the.lab the.H the.n) ≡ false) where
+-- a client and a host whose relay hears nothing of it
+pub record UnansweredHosts : Type 0 where
+  pub the : RelayedHosts
+  pub hushed : Bool
+  pub plain : hushed ≡ false → has_cone (address_at the.lab the.H the.n) ≡ false
+
+module _ (unanswered_hosts : UnansweredHosts) where
+  open unanswered_hosts use {the, hushed, plain}
   open the use {lab, H, n, m, c, h, r, are}
 
   abbrev own : Ip6
@@ -195,8 +202,14 @@ module _ (the : RelayedHosts) (hushed : Bool) (plain : hushed ≡ false → has_
       at_its_server =
           let d = to_its_server.did in
           record {
-            made = subst (λ (ms : List Made). AllByRecursion IsVain (filter_map item_in ms)) (sym (at_server.passes_on lab
-                (c_side the) (end the) r.six r.at (may_tell the) G p
+            made = subst (λ (ms : List Made). AllByRecursion IsVain (filter_map item_in ms)) (sym (at_server.passes_on (record {
+              lab = lab;
+              a = c_side the;
+              end = end the;
+              peer = r.six;
+              from = r.at;
+              may = may_tell the;
+            }) G p
                 (server_ep row.primary) d sound))
                 (told may refl, tt);
             stays = still_unheard G p (record { follows = g.0; calm = to_its_server.calm; moment = d.moment }) c.server d.node
@@ -223,7 +236,7 @@ module _ (the : RelayedHosts) (hushed : Bool) (plain : hushed ≡ false → has_
         node = client c;
         item = udp (server_ep row.primary) (embedded own) z;
         at = at ∙ ap (λ (u : Item). Some u) is;
-        goes = to_client lab are.rules G n c (server_ep row.primary) (embedded own) z are.client_is
+        goes = to_client lab are.rules G n z are.client_is
             (is_let_in lab G (now G) (server_ep row.primary) (embedded own) n c are.rules are.chained there
             (enters_along lab G g.1 (server_ep row.primary) (nats_of lab c) c.inside (embedded own)
             (its_way the G unheard.way)));
@@ -231,8 +244,14 @@ module _ (the : RelayedHosts) (hushed : Bool) (plain : hushed ≡ false → has_
 
       reads : ReadsPayload v z
       reads =
-          let bubble = at_server.reads lab (c_side the) (end the) r.six r.at
-          (may_tell the) in
+          let bubble = at_server.reads (record {
+            lab = lab;
+            a = c_side the;
+            end = end the;
+            peer = r.six;
+            from = r.at;
+            may = may_tell the;
+          }) in
           forwarded_reads_back (bubble_bytes r.six own) _ (Some r.at) bubble.bytes bubble.payload.read (bubble_small r.six own)
           (relay_keeps the).at
 
@@ -240,8 +259,18 @@ module _ (the : RelayedHosts) (hushed : Bool) (plain : hushed ≡ false → has_
       got = client_in setup (journal n G) (now G) (server_ep row.primary) z (words lab n G)
 
       quiet : IsDeaf (journal n G) (now G) r.six got
-      quiet = deaf setup (journal n G) (now G) (server_ep row.primary) z v reads (from_its_server the)
-          (ap is_advert (bubble_message r.six own)) (subst (λ (b : Bool). ClosedBy b G) may unheard.closed) (words lab n G)
+      quiet = deaf (record {
+        s = setup;
+        j = journal n G;
+        n = now G;
+        from = server_ep row.primary;
+        x = z;
+        v = v;
+        reads = reads;
+        server = from_its_server the;
+        no_advert = ap is_advert (bubble_message r.six own);
+        closed = subst (λ (b : Bool). ClosedBy b G) may unheard.closed;
+      }) (words lab n G)
 
       pub at_client : Ends G p
       at_client =

@@ -28,10 +28,10 @@ module _ (the : AskingHost) (hushed : Bool) (plain : hushed ≡ false → has_co
   the_three = record { lab = lab; H = H; n = n; m = m; c = c; h = h; r = r; are = asks.are }
 
   abbrev IsAtRelay : Item → Type 0
-  IsAtRelay = IsVain the_three hushed plain
+  IsAtRelay = IsVain (record { the = the_three; hushed = hushed; plain = plain })
 
   abbrev IsShut : List Full → Type 0
-  IsShut = IsUnheard the_three hushed plain
+  IsShut = IsUnheard (record { the = the_three; hushed = hushed; plain = plain })
 
   -- the test to the client's server, and from there to the host; or what is for the client, at the relay
   pub data IsAsked (y : Item) : Type 0 where
@@ -51,7 +51,7 @@ module _ (the : AskingHost) (hushed : Bool) (plain : hushed ≡ false → has_co
         let d = to_its_server the this is in
         record {
           made = at_nodes.passed_on the this is IsAsked (tested refl);
-          stays = still_unheard the_three hushed plain G p (record { follows = g.0; calm = d.calm; moment = d.did.moment }) c.server
+          stays = still_unheard (record { the = the_three; hushed = hushed; plain = plain }) G p (record { follows = g.0; calm = d.calm; moment = d.did.moment }) c.server
               d.did.node (server_relay the_three) (server_client the_three) shut;
           silent = unlike.silent the no_request this (out.asking is);
         }
@@ -59,12 +59,12 @@ module _ (the : AskingHost) (hushed : Bool) (plain : hushed ≡ false → has_co
         let d = to_host the this is in
         record {
           made = at_nodes.answered the this is IsAsked (λ z to_own. in_vain (for_client z refl to_own));
-          stays = still_unheard the_three hushed plain G p (record { follows = g.0; calm = d.calm; moment = d.did.moment }) m
+          stays = still_unheard (record { the = the_three; hushed = hushed; plain = plain }) G p (record { follows = g.0; calm = d.calm; moment = d.did.moment }) m
               d.did.node (native_relay the_three) (native_client the_three) shut;
           silent = unlike.silent the no_request this (out.tested is);
         }
     goes_on (in_vain is) =
-        let ends = step the_three hushed plain this sound shut is in
+        let ends = step (record { the = the_three; hushed = hushed; plain = plain }) this sound shut is in
         record { made = each_so (λ z such. in_vain such) (items_of p) ends.made; stays = ends.stays; silent = λ b. ends.native b.node }
 
   -- AFTER THE PACKET'S RECORD
@@ -72,10 +72,10 @@ module _ (the : AskingHost) (hushed : Bool) (plain : hushed ≡ false → has_co
   abbrev k : ℕ
   k = h.relay
 
-  at_first : ClosedBy the_three hushed plain hushed (q ∷ H) → Untrusted the_three hushed plain (journal k H) (now H)
+  at_first : ClosedBy (record { the = the_three; hushed = hushed; plain = plain }) hushed (q ∷ H) → Untrusted (record { the = the_three; hushed = hushed; plain = plain }) (journal k H) (now H)
       → IsShut (q ∷ H)
   at_first closed untrusted = record {
-    untrusted = stays_at lab k (Untrusted the_three hushed plain) H q n
+    untrusted = stays_at lab k (Untrusted (record { the = the_three; hushed = hushed; plain = plain })) H q n
         (out.next the).moment (out.did the).node
         (client_relay the_three) untrusted;
     closed = closed;
@@ -84,7 +84,7 @@ module _ (the : AskingHost) (hushed : Bool) (plain : hushed ≡ false → has_co
   }
 
   -- so no delivery brings it
-  none_come : ClosedBy the_three hushed plain hushed (q ∷ H) → Untrusted the_three hushed plain (journal k H) (now H)
+  none_come : ClosedBy (record { the = the_three; hushed = hushed; plain = plain }) hushed (q ∷ H) → Untrusted (record { the = the_three; hushed = hushed; plain = plain }) (journal k H) (now H)
       → NoneBrings lab H q m (native h) x
   none_come closed untrusted = none_brings lab H q m (native h) x IsAsked IsShut
       (λ this sound is shut. goes_on this sound shut is) (number the)
@@ -107,7 +107,7 @@ module _ (the : AskingHost) (no_request : IsNoTest the.lab the.H the.n the.h the
       (is_barred (now H) (known (relay_mentions (journal h.relay H).entries) (now H) (address_at lab H n)))
       (has_room (relay_mentions (journal h.relay H).entries) (now H) (address_at lab H n)) → (later : List Full) → NoneCome later
   relay_is_closed closed = none_come the true no_cone no_request
-      (stays_at lab h.relay (RelayClosed (record { lab = lab; H = H; n = n; m = m; c = c; h = h; r = r; are = asks.are }) true no_cone) H q n
+      (stays_at lab h.relay (RelayClosed (record { the = record { lab = lab; H = H; n = n; m = m; c = c; h = h; r = r; are = asks.are }; hushed = true; plain = no_cone })) H q n
       (out.next the).moment (out.did the).node
       (client_relay (record { lab = lab; H = H; n = n; m = m; c = c; h = h; r = r; are = asks.are })) closed) untrusted
 
@@ -117,7 +117,7 @@ module _ (the : AskingHost) (no_request : IsNoTest the.lab the.H the.n the.h the
   client_is_barred plain barred =
       let d = out.did the in
       none_come the false (λ _. plain) no_request
-      (at_same_moment (ClientClosed (record { lab = lab; H = H; n = n; m = m; c = c; h = h; r = r; are = asks.are }) false (λ _. plain)) H q n
+      (at_same_moment (ClientClosed (record { the = record { lab = lab; H = H; n = n; m = m; c = c; h = h; r = r; are = asks.are }; hushed = false; plain = λ _. plain })) H q n
       (with_entry (journal n H) (client_out (client_settings lab.topology c) (journal n H) (now H) x (words lab n H))) d.moment d.later
       (inl (barred_after_host (client_settings lab.topology c) (journal n H) (now H) x (words lab n H) r.six barred))) untrusted
 
@@ -159,6 +159,6 @@ module _ (the : AskingHost) (no_request : IsNoTest the.lab the.H the.n the.h the
         by (inr full) =
             let d = out.did the in
             none_come the false (λ _. plain) no_request
-            (at_same_moment (ClientClosed (record { lab = lab; H = H; n = n; m = m; c = c; h = h; r = r; are = asks.are }) false (λ _. plain)) H q n
+            (at_same_moment (ClientClosed (record { the = record { lab = lab; H = H; n = n; m = m; c = c; h = h; r = r; are = asks.are }; hushed = false; plain = λ _. plain })) H q n
             (with_entry (journal n H) (client_out (client_settings lab.topology c) (journal n H) (now H) x (words lab n H))) d.moment d.later (inr full))
             untrusted later g fresh

@@ -35,7 +35,7 @@ module _ (s : RelaySettings) (j : List Entry) (n : ℕ) (x : List ℕ) (reads : 
 
   is_dropped : IsDropped j n peer from x (relay_in s j n from x)
   unfolding relay_standing_at relay_mentions
-  is_dropped = subst (IsDropped j n peer from x) (sym (entry_in s j n from x v reads fate.Unlisted
+  is_dropped = subst (IsDropped j n peer from x) (sym (entry_in s j n from x v reads
       (unlisted_is_dropped (seen_here s j n from x v reads) refl (unkeyed (fields_in x)) short teredo_src (same_ep-self from)
       (listed_is_known (relay_mentions j) n peer ∙ unlisted))))
       (record { sends = refl; six = refl; input = refl; listed = as_listed (relay_mention got) (relay_mentions j) n refl peer })

@@ -170,4 +170,4 @@ module _ (lab : Lab) (n : ℕ) (c : ClientNode) (there : node_at lab.topology n 
 
   -- where the latest event is over, the client is barred for each peer for which packets wait
   pub client_kept_back : (H : List Full) → Grown lab H → IsOver H → KeptBack (now H) (known (mentions (journal n H).entries) (now H) p)
-  client_kept_back H g over = waiting_barred.kept_back lab n (client c) there p keeper H g over
+  client_kept_back H g over = waiting_barred.kept_back (record { lab = lab; k = n; a = client c; there = there; p = p; keeper = keeper }) H g over

@@ -99,4 +99,4 @@ module _ (lab : Lab) (k : ℕ) (r : RelayNode) (there : node_at lab.topology k �
 
   -- where the latest event is over, the relay is barred for a client for which packets wait
   pub relay_kept_back : (H : List Full) → Grown lab H → IsOver H → KeptBack (now H) (known (relay_mentions (journal k H).entries) (now H) p)
-  relay_kept_back H g over = waiting_barred.kept_back lab k (relay r) there p keeper H g over
+  relay_kept_back H g over = waiting_barred.kept_back (record { lab = lab; k = k; a = relay r; there = there; p = p; keeper = keeper }) H g over

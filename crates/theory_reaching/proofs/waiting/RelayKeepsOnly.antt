@@ -64,7 +64,7 @@ module _ (s : RelaySettings) (j : List Entry) (n : ℕ) (x : List ℕ) (is_one :
   it = wordless_entry n (from_six x) (Some x) (Some dst) (relay_transmission_step s stands x dst row)
 
   entry_is : relay_six s j n x ≡ it
-  entry_is = entry_six s j n x is_one row refl
+  entry_is = entry_six (record { s = s; j = j; n = n; x = x; is_one = is_one }) row refl
 
   only : GivesOnly s stands x dst row
   only = gives_only s stands x dst given_here

@@ -12,7 +12,7 @@ IsIdle k = is_some k.trusted ≡ true → k.waiting ≡ []
 -- AFTER ONE ENTRY
 
 -- one that keeps a packet was of an untrusted client, and one that is trusted by it has the cone bit, so nothing waits for it
-record Allows (f : Fate) (k : Peer) : Type 0 where
+pub record Allows (f : Fate) (k : Peer) : Type 0 where
   queued : f ≡ fate.Queued → is_some k.trusted ≡ false
   cone : f ≡ fate.SentCone → k.waiting ≡ []
 
@@ -101,8 +101,17 @@ module _ (s : RelaySettings) (p : Ip6) where
 
   -- ONE MORE ENTRY
 
-  module _ (e : Entry) (ms : List Mention) (before : AreIdle ms)
-      (allows : is_about p (relay_mention e) ≡ true → Allows e.step.fate (known ms e.moment p)) (n : ℕ) where
+  -- an entry that leaves trusted peers idle
+  pub record IdleBefore : Type 0 where
+    pub e : Entry
+    pub ms : List Mention
+    pub before : AreIdle ms
+    pub allows : is_about p (relay_mention e) ≡ true → Allows e.step.fate (known ms e.moment p)
+    pub n : ℕ
+
+  module _ (idle_before : IdleBefore) where
+    open idle_before use {e, ms, before, allows, n}
+
     abbrev m : Mention
     m = relay_mention e
 
@@ -141,9 +150,14 @@ module _ (s : RelaySettings) (p : Ip6) where
   all_idle [] is = λ n _. refl
   all_idle (e ∷ j) is =
       let before : AreIdle (relay_mentions j) = all_idle j is.1 in
-      λ n. idle_then e (relay_mentions j) before
-      (subst (λ (z : Entry). is_peer p z.peer ≡ true → Allows z.step.fate (known (relay_mentions j) e.moment p)) (sym is.0.is)
-      (of_entry j e.moment e.input is.1)) n
+      λ n. idle_then (record {
+        e = e;
+        ms = relay_mentions j;
+        before = before;
+        allows = subst (λ (z : Entry). is_peer p z.peer ≡ true → Allows z.step.fate (known (relay_mentions j) e.moment p)) (sym is.0.is)
+            (of_entry j e.moment e.input is.1);
+        n = n;
+      })
 
   pub trusted_is_idle : (j : List Entry) (n : ℕ) → IsRelayJournal s j → is_some (known (relay_mentions j) n p).trusted ≡ true
       → (known (relay_mentions j) n p).waiting ≡ []

@@ -18,7 +18,18 @@ pub record Keeper (lab : Lab) (k : ℕ) (a : Node) (p : Ip6) : Type 0 where
   pub due : (H : List Full) (l : Listing) → first_due (told (journal k H)) (now H) ≡ Some l
       → (m : ℕ) × (tick_due lab H (now H) k a ≡ Some m) × (m ≤ due_of l.peer)
 
-module _ (lab : Lab) (k : ℕ) (a : Node) (there : node_at lab.topology k ≡ Some a) (p : Ip6) (keeper : Keeper lab k a p) where
+-- a node that keeps packets for a peer
+pub record KeeperThere : Type 0 where
+  pub lab : Lab
+  pub k : ℕ
+  pub a : Node
+  pub there : node_at lab.topology k ≡ Some a
+  pub p : Ip6
+  pub keeper : Keeper lab k a p
+
+module _ (keeper_there : KeeperThere) where
+  open keeper_there use {lab, k, a, there, p, keeper}
+
   abbrev KeptIn : Journal → ℕ → Type 0
   KeptIn u t = KeptBack t (known (keeper.told u) t p)
 

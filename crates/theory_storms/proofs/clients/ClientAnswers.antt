@@ -61,7 +61,7 @@ module _ (d : AtClient) (g : IsAtClient d) where
       one_send e (direct_bubble own p to) (cond (is_some_server d.lab.topology to) 2 1) (payload_is d only.mine) (record {
         sends = ap (λ (z : Option Ep). map (direct_bubble own p) (option_to_list z)) o.1;
         may = λ from item.
-            let plain = answer_sent d.lab.topology from to (bubble_bytes own p) (bubble_of own p) reads.payload reads.bytes item.source reads.bubble
+            let plain = answer_sent (record { t = d.lab.topology; src = from; to = to; p = bubble_of own p; reads = reads.payload; bytes = reads.bytes; made = item.source }) reads.bubble
             o.2 in
             let most = eased_most d.ease d.lab.topology d.after (udp from to (bubble_bytes own p)) in
             omega (arith, plain, most);
@@ -105,7 +105,7 @@ module _ (d : AtClient) (g : IsAtClient d) where
         short = omega arith;
       }) in
       let reads = packet_is_payload (packet_bytes request) request item.bytes item.short (packet_reads_back request c_is.packet).read in
-      let sent = test_sent d.lab.topology from to_server (packet_bytes request) request reads item.bytes item.source g.served.row
+      let sent = test_sent (record { t = d.lab.topology; src = from; to = to_server; p = request; reads = reads; bytes = item.bytes; made = item.source })
       (own_server d.lab.topology d.c g.rules g.served) (native_is d full only) (ap is_solicit c_is.message) in
       let most = eased_most d.ease d.lab.topology d.after (udp from to_server (packet_bytes request)) in
       by (omega (arith, sent, most)) knows refl (λ trusted. trusted_test d.ease d.lab.topology d.after from to_server (packet_bytes request) (record {

@@ -22,8 +22,15 @@ module _ (d : AtClient) (g : IsAtClient d) where
 
   packet_may : (y : List ℕ) → IsWaiting y → PacketWeighs (send d.src y)
   packet_may y mine from made =
-      let plain = teredo_sent d.lab.topology from d.src y (fields_in y)
-      (packet_is_payload y (fields_in y) made.bytes made.short (read_as y mine.well_formed)) made.bytes made.source
+      let plain = teredo_sent (record {
+        t = d.lab.topology;
+        src = from;
+        to = d.src;
+        p = fields_in y;
+        reads = packet_is_payload y (fields_in y) made.bytes made.short (read_as y mine.well_formed);
+        bytes = made.bytes;
+        made = made.source;
+      })
       (own_is_teredo (setup d) d.j (fields_in y).src mine.source) mine.no_bubble in
       let most = eased_most d.ease d.lab.topology d.after (udp from d.src y) in
       omega (arith, plain, most)

@@ -119,29 +119,29 @@ module _ (s : Weighing) (n : ℕ) (c : ClientNode) where
     indirect_by : IsIndirect (seen_of d) → (o : Ep) → origin_in (value_in x).lead ≡ Some o → cond (is_some_server t o) 3 2 ≤ d.heavy
     unfolding reception.seen
     indirect_by only o told =
-        let most = indirect_weight t src dst x o to_nat only.mine.sound.payload (from_server_is t c src served only.server) only.bubble told in
+        let most = indirect_weight t src dst x to_nat only.mine.sound.payload (from_server_is t c src served only.server) only.bubble told in
         let left = three_left s.ease (is_trusted_for t s.before p.src p.dst) (datagram_weight t src dst x) (cond (is_some_server t o) 3 2)
         (small (is_some_server t o)) most in
         let so = weighs_so in
         omega (arith, left, so)
 
     -- a packet from outside Teredo, which is tested
-    suspect_weighs : (full : Bool) → IsSuspect full (seen_of d) → datagram_weight t src dst x ≡ 8
+    suspect_weighs : {full : Bool} → IsSuspect full (seen_of d) → datagram_weight t src dst x ≡ 8
     unfolding reception.seen
-    suspect_weighs full only =
+    suspect_weighs only =
         let least = foreign_weight t src dst x to_nat only.direct.mine.sound.payload only.global only.native only.no_bubble only.no_reply in
         let most = datagram_most t src dst x in
         omega (arith, least, most)
 
-    mine_is : (full : Bool) → IsSuspect full (seen_of d) → p.dst ≡ own_of d
+    mine_is : {full : Bool} → IsSuspect full (seen_of d) → p.dst ≡ own_of d
     unfolding reception.seen
-    mine_is full only = same_ip6-true p.dst (own_of d) only.direct.mine.mine
+    mine_is only = same_ip6-true p.dst (own_of d) only.direct.mine.mine
 
     suspect_by : (full : Bool) → IsSuspect full (seen_of d) → less s.ease.amount (is_trusted_for t (after s) (peer_of d) (own_of d)) 8 ≤ d.heavy
     suspect_by full only =
-        let eight = ap (λ (w : ℕ). less s.ease.amount (eases_datagram t s.before p w) w) (suspect_weighs full only) in
+        let eight = ap (λ (w : ℕ). less s.ease.amount (eases_datagram t s.before p w) w) (suspect_weighs only) in
         let most = less_by s.ease.amount (is_trusted_for t s.before p.src p.dst) (is_trusted_for t (after s) (peer_of d) (own_of d)) (λ trusted.
-        ap (is_trusted_for t (after s) p.src) (sym (mine_is full only)) ∙ known_lasts t s.before (after s) s.lasts p.src p.dst trusted) in
+        ap (is_trusted_for t (after s) p.src) (sym (mine_is only)) ∙ known_lasts t s.before (after s) s.lasts p.src p.dst trusted) in
         let so = weighs_so in
         omega (arith, eight, most, so)
 

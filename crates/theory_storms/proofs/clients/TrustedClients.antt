@@ -50,19 +50,30 @@ pub known_by : (t : TopologyState) (G : List Full) (n : ℕ) (p : Fields) → ho
 unfolding is_trusted_for
 known_by t G n p of h = ap (trusted_by t G p.dst) of ∙ h
 
-module _ (z : Ease) (t : TopologyState) (G : List Full) (n : ℕ) (to : Ep) (x : List ℕ) where
+-- a datagram to a client, after a history
+pub record TrustedRequest : Type 0 where
+  pub z : Ease
+  pub t : TopologyState
+  pub G : List Full
+  pub n : ℕ
+  pub to : Ep
+  pub x : List ℕ
+
+module _ (trusted_request : TrustedRequest) where
+  open trusted_request use {z, t, G, n, to, x}
+
   abbrev p : Fields
   p = fields_in x
 
-  module _ (h : IsForClient to x) (src : Ep) (made : IsMadeItem (udp src to x)) where
+  module _ (h : IsForClient to x) {src : Ep} (made : IsMadeItem (udp src to x)) where
     reads : ReadsPayload (value_written None None p) x
     reads = packet_is_payload x p made.bytes made.short (read_as x h.well_formed)
 
     -- at a server it draws nothing
-    looped : (a : ServerNode) → first_at t to ≡ Some (server a) → weight_at t src to x (Some (server a)) ≤ 1
-    looped a e =
+    looped : {a : ServerNode} → first_at t to ≡ Some (server a) → weight_at t src to x (Some (server a)) ≤ 1
+    looped {a} e =
         let there = is_there t to (server a) e in
-        let none = looped_there t a (side_at (server a) to) src x p reads made.bytes made.source h.teredo
+        let none = looped_there (record { t = t; a = a; side = side_at (server a) to; from = src; x = x; p = p; reads = reads; bytes = made.bytes; made = made.source }) h.teredo
         (ap (λ (ep : Ep). is_own (server_settings a) ep.ip) (sym h.where_to) ∙ own_there a to there.passes) in
         omega (arith, none)
 
@@ -75,7 +86,7 @@ module _ (z : Ease) (t : TopologyState) (G : List Full) (n : ℕ) (to : Ep) (x :
       at_eight : (o : Option Node) → first_at t to ≡ o → less z.amount (eases_at t G src to x o) (weight_at t src to x o) + z.amount ≤ 8
       at_eight None e = elsewhere
       at_eight (Some (server a)) e =
-          let one = looped a e in
+          let one = looped e in
           let most = less_most z.amount (eases_at t G src to x (Some (server a))) (weight_at t src to x (Some (server a))) in
           let few = z.few in
           omega (arith, one, most, few)

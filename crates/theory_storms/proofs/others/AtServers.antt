@@ -25,29 +25,29 @@ packet_is x v reads =
     ap fields_in (take_rest x v.lead.at) ∙ ap (λ (w : Value). fields_in (drop w.lead.at x)) (sym reads.value) ∙ same_fields x reads.is_one
     ∙ ap (λ (w : Value). w.packet) reads.value
 
-module _ (t : TopologyState) (a : ServerNode) (side : Side) (from : Ep) (x : List ℕ) (v : Value) (reads : ReadsPayload v x)
+module _ (t : TopologyState) (a : ServerNode) (side : Side) {from : Ep} {x : List ℕ} {v : Value} (reads : ReadsPayload v x)
     (bytes : IsBytes x) (made : IsEp from) where
-  by_rule : (k : ℕ) (r : Rule) → RuledOnlyIf r (server_seen (server_settings a) from v) → IsUnder t a from v k
+  by_rule : {k : ℕ} (r : Rule) → RuledOnlyIf r (server_seen (server_settings a) from v) → IsUnder t a from v k
       → output_weight t (server a) x (step_of (server_settings a) side from x v r) ≤ k
-  by_rule k (Dropped f) w u = omega arith
-  by_rule k Advert w u = absurd (false≢true (sym u.plain ∙ w.solicitation))
-  by_rule k ForwardOrigin w u =
+  by_rule (Dropped f) w u = omega arith
+  by_rule Advert w u = absurd (false≢true (sym u.plain ∙ w.solicitation))
+  by_rule {k} ForwardOrigin w u =
       let one = sent_on t a (send_from Primary (embedded v.packet.dst) (forwarded (Some from) (drop v.lead.at x))) k (Some from) v.packet
       (forwarded_reads_back x v (Some from) bytes reads.read w.on.sound.short made) (u.own w) in
       omega (arith, one)
-  by_rule k Forward w u =
+  by_rule {k} Forward w u =
       let one = sent_on t a (send_from Primary (embedded v.packet.dst) (forwarded None (drop v.lead.at x))) k None v.packet
       (forwarded_reads_back x v None bytes reads.read w.on.sound.short tt) (u.other w) in
       omega (arith, one)
-  by_rule k Six w u =
+  by_rule Six w u =
       let less = u.six w in
       let is = ap (packet_weight false) (packet_is x v reads) in
       omega (arith, less, is)
 
-  output_under : (k : ℕ) → IsUnder t a from v k → output_weight t (server a) x (server_row (server_settings a) side from x) ≤ k
+  output_under : {k : ℕ} → IsUnder t a from v k → output_weight t (server a) x (server_row (server_settings a) side from x) ≤ k
   unfolding server_row
-  output_under k u = subst (λ (r : Result Value PayloadFault). output_weight t (server a) x (by_payload (server_settings a) side from x r) ≤ k) (sym reads.read)
-      (by_rule k (rule_of (server_settings a) from v) (rule_is_warranted (server_settings a) from v) u)
+  output_under {k} u = subst (λ (r : Result Value PayloadFault). output_weight t (server a) x (by_payload (server_settings a) side from x r) ≤ k) (sym reads.read)
+      (by_rule (rule_of (server_settings a) from v) (rule_is_warranted (server_settings a) from v) u)
 
 -- NO SOLICITATION
 
@@ -88,17 +88,30 @@ loops a p teredo own = ap (λ (b : Bool). b && is_own (server_settings a) (embed
 abbrev bare : Fields → Value
 bare p = value_written None None p
 
-module _ (t : TopologyState) (a : ServerNode) (side : Side) (from : Ep) (x : List ℕ) (p : Fields)
-    (reads : ReadsPayload (value_written None None p) x) (bytes : IsBytes x) (made : IsEp from) where
+-- a datagram that a server receives, and its fields
+pub record ServerReceives : Type 0 where
+  pub t : TopologyState
+  pub a : ServerNode
+  pub side : Side
+  pub from : Ep
+  pub x : List ℕ
+  pub p : Fields
+  pub reads : ReadsPayload (value_written None None p) x
+  pub bytes : IsBytes x
+  pub made : IsEp from
+
+module _ (server_receives : ServerReceives) where
+  open server_receives use {t, a, side, from, x, p, reads, bytes, made}
+
   abbrev output : ℕ
   output = output_weight t (server a) x (server_row (server_settings a) side from x)
 
-  under : (k : ℕ) → IsUnder t a from (bare p) k → output ≤ k
-  under k u = output_under t a side from x (bare p) reads bytes made k u
+  under : {k : ℕ} → IsUnder t a from (bare p) k → output ≤ k
+  under {k} u = output_under t a side reads bytes made u
 
   -- a packet of a Teredo address
   pub teredo_there : is_teredo p.src ≡ true → is_bubble p ≡ false → output ≤ 7
-  teredo_there teredo plain = under 7 (record {
+  teredo_there teredo plain = under {k = 7} (record {
     plain = by_source p teredo;
     own = λ w. (omega arith, teredo_load t (own_ep (server a) Primary) (embedded p.dst) (Some from) p teredo plain);
     other = λ w. (omega arith, teredo_load t (own_ep (server a) Primary) (embedded p.dst) None p teredo plain);
@@ -107,7 +120,7 @@ module _ (t : TopologyState) (a : ServerNode) (side : Side) (from : Ep) (x : Lis
 
   -- one for an address that embeds the server's own draws nothing
   pub looped_there : is_teredo p.dst ≡ true → is_own (server_settings a) (embedded p.dst).ip ≡ true → output ≤ 0
-  looped_there teredo own = under 0 (record {
+  looped_there teredo own = under {k = 0} (record {
     plain = by_destination p teredo;
     own = λ w. absurd (false≢true (sym w.on.unlooped ∙ loops a p teredo own));
     other = λ w. absurd (false≢true (sym w.on.unlooped ∙ loops a p teredo own));
@@ -116,7 +129,7 @@ module _ (t : TopologyState) (a : ServerNode) (side : Side) (from : Ep) (x : Lis
 
   -- to a native host goes the packet alone
   pub native_there : (k : ℕ) → is_teredo p.dst ≡ false → is_solicit (message_in p) ≡ false → packet_weight false p ≤ k → output ≤ k
-  native_there k native plain less = under k (record {
+  native_there k native plain less = under {k = k} (record {
     plain = by_message p plain;
     own = λ w. absurd (false≢true (sym native ∙ for_teredo a p w.for_client));
     other = λ w. absurd (false≢true (sym native ∙ w.for_teredo));
@@ -125,7 +138,7 @@ module _ (t : TopologyState) (a : ServerNode) (side : Side) (from : Ep) (x : Lis
 
   -- a bubble from elsewhere than a server
   pub bubble_there : is_bubble p ≡ true → is_solicit (message_in p) ≡ false → is_some_server t from ≡ false → output ≤ 2
-  bubble_there bubble plain elsewhere = under 2 (record {
+  bubble_there bubble plain elsewhere = under {k = 2} (record {
     plain = by_message p plain;
     own = λ w. (omega arith, told_bubble_load t (own_ep (server a) Primary) (embedded p.dst) from p bubble elsewhere);
     other = λ w. let one = bubble_load t (own_ep (server a) Primary) (embedded p.dst) p bubble in (omega arith, omega (arith, one));

@@ -32,12 +32,12 @@ silent_draws t a x step silent =
     omega (arith, sends, six)
 
 -- a server's datagram that comes to whichever server
-module _ (t : TopologyState) (is : IsTopology t) (n : ℕ) (a : ServerNode) (there : node_at t n ≡ Some (server a)) where
-  draws_nothing : (s : Send) (m : ℕ) (b : ServerNode) → node_at t m ≡ Some (server b)
+module _ {t : TopologyState} (is : IsTopology t) (n : ℕ) {a : ServerNode} (there : node_at t n ≡ Some (server a)) where
+  draws_nothing : (s : Send) (m : ℕ) {b : ServerNode} → node_at t m ≡ Some (server b)
       → ((other : ServerNode) (at : Side) → same_ip a.primary other.primary ≡ false
       → IsSilent (server_row (server_settings other) at (own_ep (server a) s.side) s.bytes))
       → output_weight t (server b) s.bytes (server_row (server_settings b) (side_at (server b) s.to) (own_ep (server a) s.side) s.bytes) ≤ 0
-  draws_nothing s m b at silent = by (same_ip a.primary b.primary) refl where
+  draws_nothing s m {b} at silent = by (same_ip a.primary b.primary) refl where
     by : (same : Bool) → same_ip a.primary b.primary ≡ same
         → output_weight t (server b) s.bytes (server_row (server_settings b) (side_at (server b) s.to) (own_ep (server a) s.side) s.bytes) ≤ 0
     by false e = silent_draws t b s.bytes (server_row (server_settings b) (side_at (server b) s.to) (own_ep (server a) s.side) s.bytes)
@@ -72,7 +72,7 @@ module _ (t : TopologyState) (is : IsTopology t) (n : ℕ) (a : ServerNode) (the
     by true e =
         let h = server_there t s.to e in
         let first = ap (weight_at t src s.to s.bytes) (first_is t s.to h.number (server h.row) is h.node h.passes) in
-        let less = draws_nothing s h.number h.row h.node silent in
+        let less = draws_nothing s h.number h.node silent in
         omega (arith, first, less)
     by false e = elsewhere (first_at t s.to) refl e
 

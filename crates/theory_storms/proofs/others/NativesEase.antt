@@ -31,9 +31,9 @@ module _ (s : Weighing) (n : ℕ) (b : NativeNode) where
   unfolding is_trusted_for
   trusted p of knows = s.lasts b.relay p.src (ap (trusted_by t s.before p.src) (sym of) ∙ knows)
 
-  made_one : (to : Option ℕ) (bytes y : List ℕ) → Comes s n (native b) (six to bytes) → (native_in bytes).packet ≡ Some y
+  made_one : {to : Option ℕ} {bytes y : List ℕ} → Comes s n (native b) (six to bytes) → (native_in bytes).packet ≡ Some y
       → (f : Item → ℕ) → sum_by f (items_of s.full) ≡ f (six (relay_for b y) y)
-  made_one to bytes y h e f =
+  made_one {y} h e f =
       let is = ap (λ (ms : List Made). sum_by f (items_in ms)) (h.act.made ∙ ap (native_made b) e) in
       let one = sum_by-cons f (six (relay_for b y) y) [] in
       omega (arith, is, one)
@@ -76,15 +76,15 @@ module _ (s : Weighing) (n : ℕ) (b : NativeNode) where
     by true eased =
         let after = weighs_less s.ease t (after s) (six (relay_for b y) y) (replies_eased bytes y h e eased) in
         let before = weighs_less s.ease t s.before (six None bytes) eased in
-        let a = made_one None bytes y h e (weigh_after s) in
-        let c = made_one None bytes y h e (entry_weight t) in
+        let a = made_one h e (weigh_after s) in
+        let c = made_one h e (entry_weight t) in
         let fell = old in
         omega (arith, after, before, a, c, fell)
   answered (Some k) bytes y e h =
       let back = reads_back bytes y (record { bytes = (h.came s.is).bytes; short = (h.came s.is).short }) (each_is_reply bytes y e) in
       let few = small bytes y back (relay_for b y) in
       let most = eased_most s.ease t (after s) (six (relay_for b y) y) in
-      let a = made_one (Some k) bytes y h e (weigh_after s) in
+      let a = made_one h e (weigh_after s) in
       let under = eased_under s.ease t s.before (six (Some k) bytes) in
       let twelve = no_reply bytes y (each_is_reply bytes y e) in
       let small_ease = s.ease.few in

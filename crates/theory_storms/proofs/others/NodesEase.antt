@@ -37,10 +37,10 @@ module _ (s : Weighing) (n : ℕ) (a : ServerNode) where
   row src dst bytes = server_row (server_settings a) (side_at (server a) dst) src bytes
 
   -- it gives the packet to the IPv6 side, which is eased too
-  gives : (src dst : Ep) (bytes : List ℕ) → Comes s n (server a) (udp src dst bytes) → (o : Option Span) → (row src dst bytes).six ≡ o
+  gives : {src dst : Ep} {bytes : List ℕ} → Comes s n (server a) (udp src dst bytes) → (o : Option Span) → (row src dst bytes).six ≡ o
       → eases_output t s.before bytes o ≡ true → sum_by (weigh_after s) (items_of s.full) + s.ease.amount ≤ sum_by (entry_weight t) (items_of s.full)
-  gives src dst bytes h None six_is e = absurd (false≢true e)
-  gives src dst bytes h (Some span) six_is e =
+  gives h None six_is e = absurd (false≢true e)
+  gives {src} {dst} {bytes} h (Some span) six_is e =
       let front : List Made = outright (own_ep (server a)) (armed s.before) 0 (row src dst bytes).sends in
       let y : Item = six None (part bytes span) in
       let made_is : s.full.made ≡ front ++ six_made (arrived src bytes) (Some span) = h.act.made
@@ -65,7 +65,7 @@ module _ (s : Weighing) (n : ℕ) (a : ServerNode) where
     by false e = plainly s (udp src dst bytes) e old
     by true e =
         let first = ap (eases_at t s.before src dst bytes) (first_is t dst n (server a) s.is h.act.there (server_there a dst h.goes)) in
-        let less_by = gives src dst bytes h (row src dst bytes).six refl (sym first ∙ e) in
+        let less_by = gives h (row src dst bytes).six refl (sym first ∙ e) in
         let before = weighs_less s.ease t s.before (udp src dst bytes) e in
         let fell = old in
         omega (arith, less_by, before, fell)

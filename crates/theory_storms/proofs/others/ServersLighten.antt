@@ -28,7 +28,7 @@ server_makes_less s n a src dst bytes h =
     let row : Step = server_row (server_settings a) (side_at (server a) dst) src bytes in
     let own : Side → Ep = own_ep (server a) in
     let made = subst (λ (ms : List Made). AllByRecursion IsMadeItem (items_in ms)) h.act.made (h.fresh s.is) in
-    let each = sends_weigh_so t s.is n a h.act.there (side_at (server a) dst) src bytes keeps.primary.made (h.came s.is).source (h.came s.is).bytes in
+    let each = sends_weigh_so s.is n h.act.there (side_at (server a) dst) src bytes keeps.primary.made (h.came s.is).source (h.came s.is).bytes in
     let new = own_weigh (record { items = entry_weight t; sends = send_weight t (server a); own = own }) (armed s.before) 0 row.sends
     (six_made (arrived src bytes) row.six) made each in
     let packet = six_weighs t src bytes row.six in

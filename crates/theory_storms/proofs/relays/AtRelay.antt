@@ -102,7 +102,7 @@ pub begun : (d : AtRelay) (e : Entry) (client : Ip6) (at : Ep) → node_at d.lab
     → relay_trusts d.lab.topology (d.r ∷ d.H) d.n client ≡ true
 begun d e client at there next is =
     trusts_after d e client there next
-    (trusted.begins (relay_mention e) (relay_mentions (journal_of d)) client (moment_of d) at is.0 is.1 is.2 is.3)
+    (trusted.begins (relay_mention e) (relay_mentions (journal_of d)) client is.0 is.1 is.2 is.3)
 
 pub lasting : (d : AtRelay) (e : Entry) (client : Ip6) → node_at d.lab.topology d.n ≡ Some (relay d.q) → IsNext d e → e.moment ≡ moment_of d
     → is_some (known (relay_mentions (journal_of d)) (moment_of d) client).trusted ≡ true → relay_trusts d.lab.topology (d.r ∷ d.H) d.n client ≡ true

@@ -11,8 +11,20 @@ IsOfHost t (six (Some n) bytes) = is_echo_reply (message_in (fields_in bytes)) �
 
 -- WHAT A HOST SENDS
 
-module _ (lab : Lab) (H : List Full) (r : Full) (is : IsTopology lab.topology) (g : Grown lab (r ∷ H)) (n : ℕ) (h : NativeNode)
-    {e : Entry} (act : IsActOf lab H r n (native h) e) where
+-- a record of a native host
+pub record HostActs (e : Entry) : Type 0 where
+  pub lab : Lab
+  pub H : List Full
+  pub r : Full
+  pub is : IsTopology lab.topology
+  pub g : Grown lab (r ∷ H)
+  pub n : ℕ
+  pub h : NativeNode
+  pub act : IsActOf lab H r n (native h) e
+
+module _ {e : Entry} (host_acts : HostActs e) where
+  open host_acts use {lab, H, r, is, g, n, h, act}
+
   abbrev t : TopologyState
   t = lab.topology
 
@@ -27,21 +39,21 @@ module _ (lab : Lab) (H : List Full) (r : Full) (is : IsTopology lab.topology) (
     by true = λ plain. ap (is_node h.relay) (f plain) ∙ eq-eqb h.relay h.relay refl
 
   -- where it was given this
-  did : (dst : Ep) (i : Input) (bytes : List ℕ) → native_packet h (entry_of lab H r.moment n dst i (native h)).input ≡ Some bytes
+  did : (dst : Ep) (i : Input) {bytes : List ℕ} → native_packet h (entry_of lab H r.moment n dst i (native h)).input ≡ Some bytes
       → ((x : List ℕ) → i ≡ from_six x → IsMadeItem (six None x)) → Sends bytes
-  did dst (arrived from x) bytes e made = absurd (false≢true (ap (λ (o : Option (List ℕ)). is_some o) e))
-  did dst ticked bytes e made = absurd (false≢true (ap (λ (o : Option (List ℕ)). is_some o) e))
-  did dst (given x) bytes e made =
+  did dst (arrived from x) e made = absurd (false≢true (ap (λ (o : Option (List ℕ)). is_some o) e))
+  did dst ticked e made = absurd (false≢true (ap (λ (o : Option (List ℕ)). is_some o) e))
+  did dst (given x) {bytes} e made =
       let own = each_is_own_packet h.six x bytes e in
       of_relay bytes (λ _. relay_of_host t n h (fields_in bytes).src is act.there
       (ap (λ (y : List ℕ). same_ip6 (fields_in y).src h.six) own.same ∙ own.source))
-  did dst (from_six x) bytes e made =
+  did dst (from_six x) {bytes} e made =
       let item = made x refl in
       let back = reads_back x bytes (record { bytes = item.bytes; short = item.short }) (each_is_reply x bytes e) in
       of_relay bytes (λ plain. absurd (false≢true (sym plain ∙ back.reply)))
 
-  of_native : (bytes : List ℕ) → native_packet h e.input ≡ Some bytes → Sends bytes
-  of_native bytes sends = did act.dst act.input bytes (ap (λ (z : Entry). native_packet h z.input) (sym act.step) ∙ sends)
+  of_native : {bytes : List ℕ} → native_packet h e.input ≡ Some bytes → Sends bytes
+  of_native {bytes} sends = did act.dst act.input (ap (λ (z : Entry). native_packet h z.input) (sym act.step) ∙ sends)
       (λ x came. by act.dst act.input act.is_given x came)
     where
       as_six : (x : List ℕ) (i : Item) → from_six x ≡ input_of i → IsMadeItem i → IsMadeItem (six None x)
@@ -82,7 +94,7 @@ module _ (lab : Lab) where
   one H r is g x (by_server n a f s act sends e) = subst P (sym e) tt
   one H r is g x (by_relay n a f s act sends e) = subst P (sym e) tt
   one H r is g x (by_client n c f s src act sends leaves e) = subst P (sym e) tt
-  one H r is g x (by_native n h f bytes act packet e) = subst P (sym e) (of_native lab H r is g n h act bytes packet)
+  one H r is g x (by_native n h f bytes act packet e) = subst P (sym e) (of_native (record { lab = lab; H = H; r = r; is = is; g = g; n = n; h = h; act = act }) packet)
   one H r is g x (to_six n a f from bytes span act came packet e) = subst P (sym e) tt
 
   each : (H : List Full) (r : Full) → IsTopology lab.topology → Grown lab (r ∷ H) → (xs : List Item) → AllByRecursion (MadeBy lab H r) xs → AllByRecursion P xs

@@ -1,5 +1,5 @@
 -- What a relay makes of a datagram weighs less than the datagram.
-use Rattle.theory_storms.proofs.Words.{AllByRecursion, Bool, Each, Entry, Ep, Fate, Fields, Full, Ip6, IsForeignTo, IsOfPeer, IsRelayJournal, IsServed, IsTopology, List, None, Option, Primary, RelayReceivedOnlyIf, RelaySeen, RelayStanding, Send, Some, Span, TopologyState, [], ap, arith, armed, arrived, cond, eases_request, embedded, false, fields_in, first_of_each, is_bubble, is_payload, is_peer, is_teredo, is_trusted_for, known, list_any, node_at, option_map, packet_in, part, reception_lines, refl, relay, relay_in, relay_known_in, relay_mention, relay_mentions, relay_reception, relay_reception_row, relay_reception_step, relay_rules_reception_is_warranted, relay_seen, relay_standing_at, relay_standing_of, relay_trusts, releases, rest_of, same_fields, same_ip6, same_ip6-self, send, served, six, six_made, source_in, subst, sum_by, sum_by-cons, sym, take_rest, true, unspecified, unwrap_or, value_in, waiting_is_foreign, wordless_entry, ℕ, ◌+◌, ◌∙◌, ◌∷◌, ◌≡◌, ◌≤◌}
+use Rattle.theory_storms.proofs.Words.{AllByRecursion, Bool, Each, Entry, Ep, Fate, Fields, Full, Ip6, IsForeignTo, IsOfPeer, IsRelayJournal, IsServed, IsTopology, List, None, Option, RelayReceivedOnlyIf, RelaySeen, RelayStanding, Send, Some, Span, TopologyState, [], ap, arith, armed, arrived, cond, eases_request, embedded, false, fields_in, first_of_each, is_bubble, is_payload, is_peer, is_teredo, is_trusted_for, known, list_any, node_at, option_map, packet_in, part, reception_lines, refl, relay, relay_in, relay_known_in, relay_mention, relay_mentions, relay_reception, relay_reception_row, relay_reception_step, relay_rules_reception_is_warranted, relay_seen, relay_standing_at, relay_standing_of, relay_trusts, releases, rest_of, same_fields, same_ip6, same_ip6-self, send, served, six, six_made, source_in, subst, sum_by, sum_by-cons, sym, take_rest, true, unspecified, unwrap_or, value_in, waiting_is_foreign, wordless_entry, ℕ, ◌+◌, ◌∙◌, ◌∷◌, ◌≡◌, ◌≤◌}
 use Rattle.teredo_node.specs.declared.fate.Fate.TheVariants as fate
 use Rattle.theory_storms.proofs.PeersWait.{waits_for, waits_in, freed, added}
 use Rattle.theory_storms.proofs.NewItems.{WeighsFrom, own_weigh}
@@ -58,9 +58,9 @@ module _ (d : AtRelay) (src : Ep) (x : List ℕ) (g : IsSent d x) where
 
   -- IT IS TRUSTED FROM NOW ON
 
-  trusted : (e : Entry) → IsOfPeer heard → IsNext d e → e.moment ≡ moment_of d → e.peer ≡ source_in x → (relay_mention e).bearing.touches ≡ true
+  trusted : {e : Entry} → IsOfPeer heard → IsNext d e → e.moment ≡ moment_of d → e.peer ≡ source_in x → (relay_mention e).bearing.touches ≡ true
       → (relay_mention e).bearing.trusts ≡ option_map embedded e.peer → relay_trusts d.lab.topology (d.r ∷ d.H) d.n p ≡ true
-  trusted e h next moment peer touches trusts_it =
+  trusted {e} h next moment peer touches trusts_it =
       let source = peer ∙ source_is (peer_payload h) in
       begun d e p (embedded p) g.there next
       (moment, ap (is_peer p) source ∙ same_ip6-self p, touches, trusts_it ∙ ap (option_map embedded) source)
@@ -77,12 +77,12 @@ module _ (d : AtRelay) (src : Ep) (x : List ℕ) (g : IsSent d x) where
       → PacketWeighs (send (embedded p) y)
   packet_may now teredo y foreign made =
       let same : p ≡ (fields_in y).dst = ap (λ (o : Option Ip6). unwrap_or o p) foreign.destination in
-      packet_eased d.ease d.lab.topology (d.r ∷ d.H) d.n (embedded p) y (record {
+      packet_eased (record { z = d.ease; t = d.lab.topology; G = d.r ∷ d.H; n = d.n; to = embedded p; x = y }) (record {
         well_formed = foreign.well_formed;
         native = foreign.native;
         teredo = ap is_teredo (sym same) ∙ teredo;
         where_to = ap embedded same;
-      }) (own_of d Primary) made (ap (relay_trusts d.lab.topology (d.r ∷ d.H) d.n) (sym same) ∙ now)
+      }) made (ap (relay_trusts d.lab.topology (d.r ∷ d.H) d.n) (sym same) ∙ now)
 
   -- goes to it
   released : IsOfPeer heard → relay_trusts d.lab.topology (d.r ∷ d.H) d.n p ≡ true → AllByRecursion PacketWeighs (releases (embedded p) waiting)
@@ -112,7 +112,7 @@ module _ (d : AtRelay) (src : Ep) (x : List ℕ) (g : IsSent d x) where
   bubbles : Light fate.FromClientBubble
   bubbles only next made =
       let e : Entry = came fate.FromClientBubble in
-      let now = trusted e only.peer next refl refl refl refl in
+      let now = trusted only.peer next refl refl refl refl in
       let new = own_weigh (record { items = weigh d; sends = (λ (s : Send). packet_of d s.bytes); own = own_of d })
       (armed d.H) 0 (releases (embedded p) waiting) [] made
       (released only.peer now) in
@@ -124,7 +124,7 @@ module _ (d : AtRelay) (src : Ep) (x : List ℕ) (g : IsSent d x) where
   unserved : Light fate.Unserved
   unserved only next made =
       let e : Entry = came fate.Unserved in
-      let now = trusted e only.peer next refl refl refl refl in
+      let now = trusted only.peer next refl refl refl refl in
       let new = own_weigh (record { items = weigh d; sends = (λ (s : Send). packet_of d s.bytes); own = own_of d })
       (armed d.H) 0 (releases (embedded p) waiting) [] made
       (released only.peer now) in
@@ -156,7 +156,7 @@ module _ (d : AtRelay) (src : Ep) (x : List ℕ) (g : IsSent d x) where
   served_on only next made =
       let e : Entry = came fate.FromClient in
       let span : Span = rest_of (value_in x).lead.at x in
-      let now = trusted e only.peer next refl refl refl refl in
+      let now = trusted only.peer next refl refl refl refl in
       let new = own_weigh (record { items = weigh d; sends = (λ (s : Send). packet_of d s.bytes); own = own_of d })
       (armed d.H) 0 (releases (embedded p) waiting)
       (six_made (arrived src x) (Some span)) made (released only.peer now) in

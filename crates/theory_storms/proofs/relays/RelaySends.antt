@@ -1,5 +1,5 @@
 -- What a relay makes of a packet of the IPv6 side weighs less than the packet.
-use Rattle.theory_storms.proofs.Words.{AllByRecursion, Bool, Each, Entry, Fate, Ip6, IsBytes, IsIp6, List, None, Option, Primary, RelayGiven, RelayGoesOut, RelaySentOnlyIf, RelayStanding, Send, Some, [], ap, arith, armed, bubble_bytes, bubble_of, bubble_reads_back, bubble_to, cond, destination_in, embedded, false, false≢true, fields_in, first_of_each, from_six, is_barred, is_global6, is_packet, is_peer, is_some, is_some_server, is_teredo, known, node_at, not, option_map, packet_given, packet_is_spelled, refl, relay, relay_destination_lines, relay_given, relay_known_in, relay_mention, relay_mentions, relay_packet_lines, relay_queues, relay_rules_transmission_is_warranted, relay_six, relay_standing_at, relay_standing_of, relay_transmission, relay_transmission_row, relay_transmission_step, relay_trusts, same_ip6-self, send, server_ep, server_in, skip, sum_by-cons, sym, true, udp, unspecified, unwrap_or, wordless_entry, ℕ, ◌+◌, ◌||◌, ◌∙◌, ◌∷◌, ◌≡◌, ◌≤◌}
+use Rattle.theory_storms.proofs.Words.{AllByRecursion, Bool, Each, Entry, Fate, Ip6, IsBytes, IsIp6, List, None, Option, RelayGiven, RelayGoesOut, RelaySentOnlyIf, RelayStanding, Send, Some, [], ap, arith, armed, bubble_bytes, bubble_of, bubble_reads_back, bubble_to, cond, destination_in, embedded, false, false≢true, fields_in, first_of_each, from_six, is_barred, is_global6, is_packet, is_peer, is_some, is_some_server, is_teredo, known, node_at, not, option_map, packet_given, packet_is_spelled, refl, relay, relay_destination_lines, relay_given, relay_known_in, relay_mention, relay_mentions, relay_packet_lines, relay_queues, relay_rules_transmission_is_warranted, relay_six, relay_standing_at, relay_standing_of, relay_transmission, relay_transmission_row, relay_transmission_step, relay_trusts, same_ip6-self, send, server_ep, server_in, skip, sum_by-cons, sym, true, udp, unspecified, unwrap_or, wordless_entry, ℕ, ◌+◌, ◌||◌, ◌∙◌, ◌∷◌, ◌≡◌, ◌≤◌}
 use Rattle.teredo_node.specs.declared.fate.Fate.TheVariants as fate
 use Rattle.theory_storms.proofs.PeersWait.{waits_in, added}
 use Rattle.theory_storms.proofs.Sent.{bubble_sent}
@@ -83,7 +83,7 @@ module _ (d : AtRelay) (x : List ℕ) (g : IsGiven d x) where
   packet_out : RelayGoesOut asked → relay_trusts d.lab.topology (d.r ∷ d.H) d.n p ≡ true
       → AllByRecursion (WeighsFrom (weigh d) (λ (s : Send). packet_of d s.bytes) (own_of d)) (send (embedded p) x ∷ [])
   packet_out out trusted = (
-    λ made. packet_eased d.ease d.lab.topology (d.r ∷ d.H) d.n (embedded p) x (goes_on out) (own_of d Primary) made trusted,
+    λ made. packet_eased (record { z = d.ease; t = d.lab.topology; G = d.r ∷ d.H; n = d.n; to = embedded p; x = x }) (goes_on out) made trusted,
     tt,
   )
 
@@ -119,8 +119,15 @@ module _ (d : AtRelay) (x : List ℕ) (g : IsGiven d x) where
   bubble_is packet =
       let reads = bubble_reads_back d.q.six p g.six (packet_is_spelled x g.bytes packet).0.dst in (
         λ made.
-            let old = bubble_sent d.lab.topology d.q.at (server_ep (server_in p)) (bubble_bytes d.q.six p) (bubble_of d.q.six p) reads.payload
-            reads.bytes made.source reads.bubble g.here in
+            let old = bubble_sent (record {
+              t = d.lab.topology;
+              src = d.q.at;
+              to = server_ep (server_in p);
+              p = bubble_of d.q.six p;
+              reads = reads.payload;
+              bytes = reads.bytes;
+              made = made.source;
+            }) reads.bubble g.here in
             let most = eased_most d.ease d.lab.topology (d.r ∷ d.H) (udp d.q.at (server_ep (server_in p)) (bubble_bytes d.q.six p)) in
             omega (arith, old, most),
         tt,

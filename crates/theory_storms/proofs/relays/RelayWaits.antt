@@ -31,12 +31,12 @@ module _ (lab : Lab) (n : ℕ) (q : RelayNode) where
   came H (six (Some k) bytes) of to = subst (λ (z : ℕ). IsOfHost lab.topology (six (Some z) bytes)) (sym to) of
   came H (six None bytes) of to = absurd to
 
-  given_of : (H : List Full) (r : Full) → IsTopology lab.topology → Grown lab (r ∷ H) → (dst : Ep) (i : Input) → IsGiven lab H r n (relay q) dst i → HasOf i
-  given_of H r is g dst i (delivered number y told at goes moment where_to came_as) =
+  given_of : (H : List Full) {r : Full} → IsTopology lab.topology → Grown lab (r ∷ H) → {dst : Ep} {i : Input} → IsGiven lab H r n (relay q) dst i → HasOf i
+  given_of H is g (delivered number y told at goes moment where_to came_as) =
       subst HasOf (sym came_as) (came H y (all_at (IsOfHost lab.topology) (wire H) number y (wire_of_hosts lab H is g.1) at)
       (legal_routes lab H (now H) y n (relay q) goes))
-  given_of H r is g dst i (hosted v y hands none moment where_to came_as) = subst HasOf (sym came_as) tt
-  given_of H r is g dst i (ticks due least same none moment where_to came_as) = subst HasOf (sym came_as) tt
+  given_of H is g (hosted v y hands none moment where_to came_as) = subst HasOf (sym came_as) tt
+  given_of H is g (ticks due least same none moment where_to came_as) = subst HasOf (sym came_as) tt
 
   as_relay : (H : List Full) (m : ℕ) (dst : Ep) (i : Input)
       → entry_of lab H m n dst i (relay q) ≡ relay_entry (relay_settings lab.topology n q) (journal n H).entries m i
@@ -46,15 +46,15 @@ module _ (lab : Lab) (n : ℕ) (q : RelayNode) where
   as_relay H m dst ticked = refl
 
   -- what it did at a record
-  queues : (H : List Full) (r : Full) → IsTopology lab.topology → Grown lab (r ∷ H) → node_at lab.topology n ≡ Some (relay q) → r.node ≡ Some n
+  queues : (H : List Full) {r : Full} → IsTopology lab.topology → Grown lab (r ∷ H) → node_at lab.topology n ≡ Some (relay q) → r.node ≡ Some n
       → (e : Entry) → r.entry ≡ Some e → Queues e
-  queues H r is g there mine e has = by (legal_of_node lab H r n (relay q) g.0 mine there) where
+  queues H {r} is g there mine e has = by (legal_of_node lab H r n (relay q) g.0 mine there) where
     by : OfNode lab H r n (relay q) → Queues e
     by (rests idle) = absurd (false≢true (ap (λ (o : Option Entry). is_some o) (sym idle.entry ∙ has)))
     by (acts x act) =
         let entry : e ≡ x = ap (λ (o : Option Entry). unwrap_or o e) (sym has ∙ act.entry) in
         subst Queues (sym (entry ∙ act.step ∙ as_relay H r.moment act.dst act.input))
-        (did (relay_settings lab.topology n q) (journal n H).entries r.moment act.input (given_of H r is g act.dst act.input act.is_given))
+        (did (relay_settings lab.topology n q) (journal n H).entries r.moment act.input (given_of H is g act.is_given))
 
   -- ITS JOURNAL
 
@@ -73,7 +73,7 @@ module _ (lab : Lab) (n : ℕ) (q : RelayNode) where
 
     by : (b : Bool) → is_node n r.node ≡ b → AllByRecursion Queues (journal n H).entries
         → AllByRecursion Queues (cond b (cond (is_restart r.act) (new_journal r.moment) (with_entries (journal n H) r.entry)) (journal n H)).entries
-    by true mine before = by_start (is_restart r.act) (queues H r is g there (is_node-true n r.node mine)) before
+    by true mine before = by_start (is_restart r.act) (queues H is g there (is_node-true n r.node mine)) before
     by false mine before = before
 
   -- WHAT WAITS

@@ -15,10 +15,24 @@ pub packet_weighs : (t : TopologyState) (to : Ep) (x : List ℕ) → IsForClient
     → MayWeigh (entry_weight t) (λ (s : Send). relay_packet s.bytes) (send to x)
 packet_weighs t to x h src made = by (is_echo_reply (message_in (fields_in x))) refl where
   by : (b : Bool) → is_echo_reply (message_in (fields_in x)) ≡ b → entry_weight t (udp src to x) ≤ cond b 1 8
-  by true e = reply_sent t src to x (fields_in x)
-      (packet_is_payload x (fields_in x) made.bytes made.short (read_as x h.well_formed)) made.bytes made.source h.native h.teredo h.where_to e
-  by false e = packet_sent t src to x (fields_in x)
-      (packet_is_payload x (fields_in x) made.bytes made.short (read_as x h.well_formed)) made.bytes made.source h.teredo h.where_to
+  by true e = reply_sent (record {
+    t = t;
+    src = src;
+    to = to;
+    p = fields_in x;
+    reads = packet_is_payload x (fields_in x) made.bytes made.short (read_as x h.well_formed);
+    bytes = made.bytes;
+    made = made.source;
+  }) h.native h.teredo h.where_to e
+  by false e = packet_sent (record {
+    t = t;
+    src = src;
+    to = to;
+    p = fields_in x;
+    reads = packet_is_payload x (fields_in x) made.bytes made.short (read_as x h.well_formed);
+    bytes = made.bytes;
+    made = made.source;
+  }) h.teredo h.where_to
 
 -- ONE MORE ENTRY OF ITS JOURNAL
 

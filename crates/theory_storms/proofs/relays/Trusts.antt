@@ -39,8 +39,8 @@ module _ (e : Mention) (j : List Mention) (client : Ip6) where
   lasts m moment = subst (λ (k : ℕ). is_some (known j k client).trusted ≡ true → is_some (known (e ∷ j) k client).trusted ≡ true) moment lasts_then
 
   -- and begins with an entry that gives it
-  pub begins : (m : ℕ) (at : Ep) → e.moment ≡ m → is_about client e ≡ true → e.bearing.touches ≡ true → e.bearing.trusts ≡ Some at
+  pub begins : {m : ℕ} {at : Ep} → e.moment ≡ m → is_about client e ≡ true → e.bearing.touches ≡ true → e.bearing.trusts ≡ Some at
       → is_some (known (e ∷ j) m client).trusted ≡ true
-  begins m at moment about touches trusts =
+  begins {at} moment about touches trusts =
       subst (λ (k : ℕ). is_some (known (e ∷ j) k client).trusted ≡ true) moment
       (touched about touches ∙ given e.bearing.trusts (known j e.moment client).trusted at trusts)

@@ -80,7 +80,17 @@ length_more : (way : List ℕ) (k : ℕ) → length (way ++ k ∷ []) ≤ suc (l
 length_more [] k = omega arith
 length_more (i ∷ way) k = let ih = length_more way k in omega (arith, ih)
 
-module _ (lab : Lab) (H : List Full) (m : ℕ) (src : Ep) (once : each_once lab.chain ≡ true) where
+-- an endpoint from which a datagram goes out, where each NAT is behind another once at most
+pub record Outgoing : Type 0 where
+  pub lab : Lab
+  pub H : List Full
+  pub m : ℕ
+  pub src : Ep
+  pub once : each_once lab.chain ≡ true
+
+module _ (outgoing : Outgoing) where
+  open outgoing use {lab, H, m, src, once}
+
   abbrev Past : List ℕ → Ep → Ep → Type 0
   Past way inside dst = EntersPast lab H m src way inside dst
 
@@ -88,10 +98,10 @@ module _ (lab : Lab) (H : List Full) (m : ℕ) (src : Ep) (once : each_once lab.
   In k port = let_in lab.topology (nat_pasts lab H) m k src port
 
   -- past one NAT more
-  past_more : (way : List ℕ) (k : ℕ) (inside u dst : Ep) → Past way inside u → dst.ip ≡ (nat_set_up lab.topology k).external → In k dst.port ≡ Some u
+  past_more : (way : List ℕ) (k : ℕ) (inside : Ep) {u : Ep} (dst : Ep) → Past way inside u → dst.ip ≡ (nat_set_up lab.topology k).external → In k dst.port ≡ Some u
       → Past (way ++ k ∷ []) inside dst
-  past_more [] k inside u dst same ip enters = (dst, ip, enters ∙ ap (λ (e : Ep). Some e) (sym same), refl)
-  past_more (i ∷ way) k inside u dst p ip enters = (p.0, p.1, p.2, past_more way k p.0 u dst p.3 ip enters)
+  past_more [] k inside dst same ip enters = (dst, ip, enters ∙ ap (λ (e : Ep). Some e) (sym same), refl)
+  past_more (i ∷ way) k inside {u} dst p ip enters = (p.0, p.1, p.2, past_more way k p.0 dst p.3 ip enters)
 
   -- the NATs from where it ends up to NAT k
   record Passed (at_most : List Behind) (j k : ℕ) (inside dst : Ep) : Type 0 where
@@ -100,9 +110,9 @@ module _ (lab : Lab) (H : List Full) (m : ℕ) (src : Ep) (once : each_once lab.
     past : Past (j ∷ way) inside dst
     few : length way ≤ length at_most
 
-  ends_at : (at_most : List Behind) (k : ℕ) (dst u : Ep) → In k dst.port ≡ Some u → dst.ip ≡ (nat_set_up lab.topology k).external → (j : ℕ) (x : Ep)
+  ends_at : (at_most : List Behind) (k : ℕ) (dst : Ep) {u : Ep} → In k dst.port ≡ Some u → dst.ip ≡ (nat_set_up lab.topology k).external → (j : ℕ) (x : Ep)
       → comes_to k u ≡ comes_to j x → Passed at_most j k x dst
-  ends_at at_most k dst u enters ip j x e =
+  ends_at at_most k dst {u} enters ip j x e =
       let number : k ≡ j = ap (nat_in k) e in
       let who : u ≡ x = ap (inside_in u) e in
       record {
@@ -115,7 +125,7 @@ module _ (lab : Lab) (H : List Full) (m : ℕ) (src : Ep) (once : each_once lab.
   passed : (at_most : List Behind) (k : ℕ) (dst : Ep) (o : Option Ep) → In k dst.port ≡ o → dst.ip ≡ (nat_set_up lab.topology k).external → (j : ℕ) (x : Ep)
       → goes_in lab.topology lab.chain (nat_pasts lab H) m src at_most k o ≡ comes_to j x → Passed at_most j k x dst
   passed at_most k dst None enters ip j x e = absurd (false≢true (ap comes e))
-  passed [] k dst (Some u) enters ip j x e = ends_at [] k dst u enters ip j x e
+  passed [] k dst (Some u) enters ip j x e = ends_at [] k dst enters ip j x e
   passed (b ∷ rest) k dst (Some u) enters ip j x e = by (inner_at lab.topology lab.chain k u.ip) refl e
       (λ (q : ℕ) (same : u.ip ≡ (nat_set_up lab.topology q).external). passed rest q u (In q u.port) refl same j x) where
         by : (o : Option ℕ) → inner_at lab.topology lab.chain k u.ip ≡ o
@@ -123,7 +133,7 @@ module _ (lab : Lab) (H : List Full) (m : ℕ) (src : Ep) (once : each_once lab.
             → ((q : ℕ) → u.ip ≡ (nat_set_up lab.topology q).external
             → goes_in lab.topology lab.chain (nat_pasts lab H) m src rest q (In q u.port) ≡ comes_to j x → Passed rest j q x u)
             → Passed (b ∷ rest) j k x dst
-        by None at f ih = ends_at (b ∷ rest) k dst u enters ip j x f
+        by None at f ih = ends_at (b ∷ rest) k dst enters ip j x f
         by (Some q) at f ih =
             let w = within lab.topology lab.chain k q u.ip once at in
             let p = ih q w.external f in
@@ -132,13 +142,13 @@ module _ (lab : Lab) (H : List Full) (m : ℕ) (src : Ep) (once : each_once lab.
             record {
               way = p.way ++ k ∷ [];
               climb = one_more lab.chain j p.way q k p.climb w.outer;
-              past = past_more (j ∷ p.way) k x u dst p.past ip enters;
+              past = past_more (j ∷ p.way) k x dst p.past ip enters;
               few = omega (arith, few, fewer);
             }
 
 module _ (lab : Lab) (H : List Full) (m : ℕ) (src dst : Ep) (c : ClientNode) (chained : IsChained lab) (in_ : IsLetIn lab H m src dst c) where
-  all_passed : Passed lab H m src (once_of lab.topology lab.chain chained) lab.chain c.nat in_.outer c.inside dst
-  all_passed = passed lab H m src (once_of lab.topology lab.chain chained) lab.chain in_.outer dst
+  all_passed : Passed (record { lab = lab; H = H; m = m; src = src; once = once_of lab.topology lab.chain chained }) lab.chain c.nat in_.outer c.inside dst
+  all_passed = passed (record { lab = lab; H = H; m = m; src = src; once = once_of lab.topology lab.chain chained }) lab.chain in_.outer dst
       (let_in lab.topology (nat_pasts lab H) m in_.outer src dst.port) refl (in_.external ∙ address_there lab.topology in_.outer in_.row in_.there)
       c.nat c.inside in_.enters
 

@@ -49,11 +49,11 @@ one_nat t is i j ip n same h = by (node_at t i) refl h where
 -- BEHIND ANOTHER ONE
 
 -- so the NAT with an address behind a NAT is found
-pub inner_found : (t : TopologyState) → IsTopology t → (chain : List Behind) (i j : ℕ) (ip : Ip4) → IsNat t j
+pub inner_found : {t : TopologyState} → IsTopology t → (chain : List Behind) {i j : ℕ} {ip : Ip4} → IsNat t j
     → ip ≡ (nat_set_up t j).external → outer_in chain j ≡ Some i → inner_at t chain i ip ≡ Some j
-inner_found t is [] i j ip n same at = absurd (false≢true (ap (λ (o : Option ℕ). is_some o) at))
-inner_found t is (b ∷ rest) i j ip n same at = by ((b.outer == i) && has_external ip (nat_at t b.inner)) refl
-    (λ e. inner_found t is rest i j ip n same e) where
+inner_found is [] n same at = absurd (false≢true (ap (λ (o : Option ℕ). is_some o) at))
+inner_found {t} is (b ∷ rest) {i} {j} {ip} n same at = by ((b.outer == i) && has_external ip (nat_at t b.inner)) refl
+    (λ e. inner_found is rest n same e) where
       its : b.inner ≡ j → b.outer ≡ i → ((b.outer == i) && has_external ip (nat_at t b.inner)) ≡ true
       its inner outer = and_from (b.outer == i) (has_external ip (nat_at t b.inner)) (grind (arith, nat_tests))
           (subst (λ (k : ℕ). has_external ip (nat_at t k) ≡ true) (sym inner) (external_there t j ip n same))
@@ -101,10 +101,10 @@ none_inside lab n c chained at = not-true (is_some (inner_at lab.topology lab.ch
     (client_row lab.topology n c (is_apart lab.topology lab.chain) (aparts_of lab.topology lab.chain chained) at)
 
 -- so it isn't that of NAT k
-pub apart_from : (lab : Lab) → IsTopology lab.topology → IsChained lab → (n : ℕ) (c : ClientNode) → node_at lab.topology n ≡ Some (client c)
+pub apart_from : (lab : Lab) → IsTopology lab.topology → IsChained lab → (n : ℕ) {c : ClientNode} → node_at lab.topology n ≡ Some (client c)
     → (k : ℕ) → outer_in lab.chain k ≡ Some c.nat → c.inside.ip ≡ (nat_of lab k).external → ⊥
-apart_from lab is chained n c at k up same =
+apart_from lab is chained n {c} at k up same =
     let l = link lab.topology lab.chain k c.nat (links_of lab.topology lab.chain chained) up in
     let found : inner_at lab.topology lab.chain c.nat c.inside.ip ≡ Some k =
-    inner_found lab.topology is lab.chain c.nat k c.inside.ip (nat_there lab.topology k l.inner) same up in
+    inner_found is lab.chain (nat_there lab.topology k l.inner) same up in
     false≢true (sym (none_inside lab n c chained at) ∙ ap (λ (o : Option ℕ). is_some o) found)

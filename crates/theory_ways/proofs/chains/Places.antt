@@ -18,17 +18,17 @@ module _ (t : TopologyState) (chain : List Behind) (all : list_all (is_link t ch
   not_back z way b c at = let up = rises z way b c in let less = (link t chain b z all at).order in absurd (omega (arith, up, less))
 
   -- a NAT is outside one NAT of a way alone
-  pub one_before : (j : ℕ) (w v : List ℕ) (a b z : ℕ) → Climb chain j w a → Climb chain j v b → outer_in chain a ≡ Some z → outer_in chain b ≡ Some z → a ≡ b
-  one_before j [] [] a b z at bt az bz = sym at ∙ bt
-  one_before j [] (i ∷ v) a b z at bt az bz =
+  pub one_before : (j : ℕ) (w v : List ℕ) {a b z : ℕ} → Climb chain j w a → Climb chain j v b → outer_in chain a ≡ Some z → outer_in chain b ≡ Some z → a ≡ b
+  one_before j [] [] at bt az bz = sym at ∙ bt
+  one_before j [] (i ∷ v) {b} {z} at bt az bz =
       let same : i ≡ z = same_Some i z (sym bt.0 ∙ ap (outer_in chain) at ∙ az) in
       absurd (not_back z v b (subst (λ (x : ℕ). Climb chain x v b) same bt.1) bz)
-  one_before j (i ∷ w) [] a b z at bt az bz =
+  one_before j (i ∷ w) [] {a} {z} at bt az bz =
       let same : i ≡ z = same_Some i z (sym at.0 ∙ ap (outer_in chain) bt ∙ bz) in
       absurd (not_back z w a (subst (λ (x : ℕ). Climb chain x w a) same at.1) az)
-  one_before j (i ∷ w) (k ∷ v) a b z at bt az bz =
+  one_before j (i ∷ w) (k ∷ v) {a} {b} {z} at bt az bz =
       let same : k ≡ i = same_Some k i (sym bt.0 ∙ at.0) in
-      one_before i w v a b z at.1 (subst (λ (x : ℕ). Climb chain x v b) same bt.1) az bz
+      one_before i w v at.1 (subst (λ (x : ℕ). Climb chain x v b) same bt.1) az bz
 
 -- WHAT A NAT LET OUT
 
@@ -91,9 +91,9 @@ module _ (lab : Lab) (c : ClientNode) (chained : IsChained lab) (passed : List P
             absurd (not_back lab.topology lab.chain links c.nat way q.nat climb (outer ∙ ap (λ (i : ℕ). Some i) at))
 
   -- and each further one about where the one before it let it out
-  pub at_outer : (way : List ℕ) (k j : ℕ) → Climb lab.chain c.nat way k → outer_in lab.chain k ≡ Some j → (d : Outward) → Has (outs_at j passed) (Out d)
+  pub at_outer : (way : List ℕ) {k j : ℕ} → Climb lab.chain c.nat way k → outer_in lab.chain k ≡ Some j → (d : Outward) → Has (outs_at j passed) (Out d)
       → IsFrom lab k passed d
-  at_outer way k j up at d h =
+  at_outer way {k} {j} up at d h =
       let x = passed_there j passed d h in
       by x.passing x.nat x.is (all_has (Comes lab c passed) passed x.passing all x.there) where
         by : (p : Passing) → p.nat ≡ j → p.datagram ≡ d → Comes lab c passed p → IsFrom lab k passed d
@@ -101,7 +101,7 @@ module _ (lab : Lab) (c : ClientNode) (chained : IsChained lab) (passed : List P
             let same : c.nat ≡ j = sym nat ∙ nat_is in
             absurd (not_back lab.topology lab.chain links c.nat way k up (at ∙ ap (λ (i : ℕ). Some i) (sym same)))
         by p nat_is is (next q v has climb outer inside dst) =
-            let one : q.nat ≡ k = one_before lab.topology lab.chain links c.nat v way q.nat k j climb up (outer ∙ ap (λ (i : ℕ). Some i) nat_is) at in
+            let one : q.nat ≡ k = one_before lab.topology lab.chain links c.nat v way climb up (outer ∙ ap (λ (i : ℕ). Some i) nat_is) at in
             record {
               before = q.datagram;
               there = there_passed k passed q has one;

@@ -14,9 +14,9 @@ of_mapping kind outs src m x is = by (admits kind outs src m) is where
   by false e = absurd (false≢true (ap (λ (o : Option Ep). is_some o) e))
 
 -- so at one port there is one
-pub one_inside : (s : NatSettings) (h : List NatEntry) (n port : ℕ) (src src' x y : Ep) → lets_in s h n src port ≡ Some x → lets_in s h n src' port ≡ Some y
+pub one_inside : (s : NatSettings) (h : List NatEntry) (n port : ℕ) (src src' : Ep) {x y : Ep} → lets_in s h n src port ≡ Some x → lets_in s h n src' port ≡ Some y
     → x ≡ y
-one_inside s h n port src src' x y is is' = by (find (λ (e : Outward). port == e.port) (latest s.kind (counting s.idle n h))) is is' where
+one_inside s h n port src src' {x} {y} is is' = by (find (λ (e : Outward). port == e.port) (latest s.kind (counting s.idle n h))) is is' where
   by : (o : Option Outward) → inside_if s.kind (counting s.idle n h) src o ≡ Some x → inside_if s.kind (counting s.idle n h) src' o ≡ Some y → x ≡ y
   by None e f = absurd (false≢true (ap (λ (o : Option Ep). is_some o) e))
   by (Some m) e f = sym (of_mapping s.kind (counting s.idle n h) src m x e) ∙ of_mapping s.kind (counting s.idle n h) src' m y f
@@ -29,8 +29,8 @@ module _ (lab : Lab) (H : List Full) (m : ℕ) (src src' : Ep) where
   abbrev Goes : Ep → List Behind → ℕ → Option Ep → Inward
   Goes from at_most k o = goes_in lab.topology lab.chain (nat_pasts lab H) m from at_most k o
 
-  one_in : (k port : ℕ) (u v : Ep) → In src k port ≡ Some u → In src' k port ≡ Some v → u ≡ v
-  one_in k port u v = one_inside (nat_set_up lab.topology k) (nat_pasts lab H k) m port src src' u v
+  one_in : (k port : ℕ) {u v : Ep} → In src k port ≡ Some u → In src' k port ≡ Some v → u ≡ v
+  one_in k port {u} {v} = one_inside (nat_set_up lab.topology k) (nat_pasts lab H k) m port src src' {x = u} {y = v}
 
   -- two that come in at one port of a NAT come to one place
   pub one_end : (at_most : List Behind) (k port : ℕ) {o p : Option Ep} → In src k port ≡ o → In src' k port ≡ p → {i j : ℕ} {x y : Ep}
@@ -38,10 +38,10 @@ module _ (lab : Lab) (H : List Full) (m : ℕ) (src src' : Ep) where
   one_end at_most k port {o = None} is is' e f = absurd (false≢true (ap comes e))
   one_end at_most k port {o = Some u} {p = None} is is' e f = absurd (false≢true (ap comes f))
   one_end [] k port {o = Some u} {p = Some v} is is' e f =
-      sym e ∙ ap (comes_to k) (one_in k port u v is is') ∙ f
+      sym e ∙ ap (comes_to k) (one_in k port is is') ∙ f
   one_end (b ∷ rest) k port {o = Some u} {p = Some v} is is' {i} {j} {x} {y} e f =
       by (inner_at lab.topology lab.chain k u.ip) e
-      (subst (λ (w : Ep). Goes src' (b ∷ rest) k (Some w) ≡ comes_to j y) (sym (one_in k port u v is is')) f)
+      (subst (λ (w : Ep). Goes src' (b ∷ rest) k (Some w) ≡ comes_to j y) (sym (one_in k port is is')) f)
       (λ (q : ℕ). one_end rest q u.port refl refl) where
         by : (o : Option ℕ) → unwrap_or (option_map (λ (q : ℕ). Goes src rest q (In src q u.port)) o) (comes_to k u) ≡ comes_to i x
             → unwrap_or (option_map (λ (q : ℕ). Goes src' rest q (In src' q u.port)) o) (comes_to k u) ≡ comes_to j y

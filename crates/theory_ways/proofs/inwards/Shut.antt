@@ -75,15 +75,15 @@ module _ (the : ShutSide) where
   shut_behind (b ∷ less) i j at some found shut =
       ap (λ (o : Option ℕ). unwrap_or (option_map (λ (q : ℕ). Goes less q (In q at.port)) o) (comes_to i at)) found ∙ ap (Goes less j) shut
 
-  shut_after : (j : ℕ) (way : List ℕ) (top : ℕ) (at dst : Ep) → Climb chain j way top → at.ip ≡ (nat_of lab j).external
+  shut_after : {j : ℕ} (way : List ℕ) (top : ℕ) (at dst : Ep) → Climb chain j way top → at.ip ≡ (nat_of lab j).external
       → EntersPast lab H (now H) Q way at dst → In j at.port ≡ None → length way ≤ length chain → Goes chain top (In top dst.port) ≡ shut_at j
-  shut_after j [] top at dst same ip enters shut few = ap (λ (i : ℕ). Goes chain i (In i dst.port)) (sym same)
+  shut_after {j} [] top at dst same ip enters shut few = ap (λ (i : ℕ). Goes chain i (In i dst.port)) (sym same)
       ∙ ap (Goes chain j) (subst (λ (e : Ep). In j e.port ≡ None) enters shut)
-  shut_after j (i ∷ way) top at dst climb ip enters shut few =
+  shut_after {j} (i ∷ way) top at dst climb ip enters shut few =
       let fewer : length way ≤ length chain = omega (arith, few) in
-      let on = left (record { lab = lab; H = H; m = now H; src = Q; is = there.is; chained = there.chained }) chain i way top at dst climb.1 enters fewer in
+      let on = left (record { lab = lab; H = H; m = now H; src = Q; is = there.is; chained = there.chained }) chain i way climb.1 enters fewer in
       let l : Link lab.topology j i = link lab.topology chain j i (links_of lab.topology chain there.chained) climb.0 in
-      let found = inner_found lab.topology there.is chain i j at.ip (nat_there lab.topology j l.inner) ip climb.0 in
+      let found = inner_found there.is chain (nat_there lab.topology j l.inner) ip climb.0 in
       let count : length on.rest + length way ≡ length chain = on.count in
       let some : 1 ≤ length on.rest = omega (arith, count, few) in
       on.goes ∙ shut_behind on.rest i j at some found shut
@@ -98,16 +98,16 @@ module _ (the : ShutSide) where
     pub beyond : AllCone outer ≡ true
     pub goes : Goes chain top (In top dst.port) ≡ shut_at nat
 
-  at_first : (j : ℕ) (way : List ℕ) (top : ℕ) (inside to o : Ep) → Climb chain j way top → (h : Held v to (j ∷ way) inside o)
+  at_first : {j : ℕ} {way : List ℕ} {top : ℕ} {inside to o : Ep} → Climb chain j way top → (h : Held v to (j ∷ way) inside o)
       → AloneFrom v (j ∷ way) inside → AllCone way ≡ true → is_cone_kind (s j).kind ≡ false → length way ≤ length chain → IsShutBy (j ∷ way) top o
-  at_first j way top inside to o climb h alone cones other few = record {
+  at_first {j} {way} {top} {inside} {to} {o} climb h alone cones other few = record {
     inner = [];
     nat = j;
     outer = way;
     on_way = refl;
     kind = other;
     beyond = cones;
-    goes = shut_after j way top (left_at lab j h.0) o climb refl (any_enters v g to Q way (left_at lab j h.0) o cones h.2)
+    goes = shut_after way top (left_at lab j h.0) o climb refl (any_enters v g to Q way (left_at lab j h.0) o cones h.2)
         (shut_here j inside to h.0 h.1 (λ e counts own. (alone e counts own).0) other) few;
   }
 
@@ -126,15 +126,15 @@ module _ (the : ShutSide) where
   first_is true b h e = absurd (false≢true (sym h ∙ e))
   first_is false b h e = refl
 
-  pub shut_out : (j : ℕ) (way : List ℕ) (top : ℕ) (inside to o : Ep) → Climb chain j way top → Held v to (j ∷ way) inside o
+  pub shut_out : (j : ℕ) (way : List ℕ) {top : ℕ} {inside to o : Ep} → Climb chain j way top → Held v to (j ∷ way) inside o
       → AloneFrom v (j ∷ way) inside → AllCone (j ∷ way) ≡ false → length way ≤ length chain → IsShutBy (j ∷ way) top o
-  shut_out j [] top inside to o climb h alone some few =
-      at_first j [] top inside to o climb h alone refl (first_is (is_cone_kind (s j).kind) true some refl) few
-  shut_out j (i ∷ way) top inside to o climb h alone some few = by (AllCone (i ∷ way)) refl
-      (λ e. shut_out i way top (left_at lab j h.0) to o climb.1 h.2 (alone h.0 h.1.counts h.1.left).1 e fewer) where
+  shut_out j [] {top} {inside} {to} {o} climb h alone some few =
+      at_first climb h alone refl (first_is (is_cone_kind (s j).kind) true some refl) few
+  shut_out j (i ∷ way) {top} {inside} {to} {o} climb h alone some few = by (AllCone (i ∷ way)) refl
+      (λ e. shut_out i way climb.1 h.2 (alone h.0 h.1.counts h.1.left).1 e fewer) where
         fewer : length way ≤ length chain
         fewer = let f : length (i ∷ way) ≤ length chain = few in omega (arith, f)
 
         by : (b : Bool) → AllCone (i ∷ way) ≡ b → (AllCone (i ∷ way) ≡ false → IsShutBy (i ∷ way) top o) → IsShutBy (j ∷ (i ∷ way)) top o
-        by true e ih = at_first j (i ∷ way) top inside to o climb h alone e (first_is (is_cone_kind (s j).kind) (AllCone (i ∷ way)) some e) few
+        by true e ih = at_first climb h alone e (first_is (is_cone_kind (s j).kind) (AllCone (i ∷ way)) some e) few
         by false e ih = behind j (i ∷ way) top o (ih e)

@@ -68,17 +68,17 @@ module _ (v : Asker) (g : Grown v.lab v.past) where
       (counting_datagram_holds_its_port (s k) (past k) (now H) (set_up_past lab H k g) d counts)
 
   -- two that asked one endpoint, as the NAT looks, have one port
-  pub one_port : (k : ℕ) (inside src : Ep) (d e : Outward) → Counts v k d → d.inside ≡ inside
+  pub one_port : (k : ℕ) {inside src : Ep} {d e : Outward} → Counts v k d → d.inside ≡ inside
       → Counts v k e → e.inside ≡ inside → Asked (s k).kind src d → e.dst ≡ src → d.port ≡ e.port
-  one_port k inside src d e dc dl ec el asked to = by (is_symmetric (s k).kind) refl where
+  one_port k {inside} {src} {d} {e} dc dl ec el asked to = by (is_symmetric (s k).kind) refl where
     by : (b : Bool) → is_symmetric (s k).kind ≡ b → d.port ≡ e.port
     by true h = ap (port_or d.port) (sym (held k inside d dc dl)
         ∙ ap (λ (x : Ep). live_port (s k).kind inside x (live k)) (asked_same (s k).kind h src d asked ∙ sym to) ∙ held k inside e ec el)
     by false h = ap (port_or d.port) (sym (held k inside d dc dl) ∙ plain_port (s k).kind h inside d.dst e.dst (live k) ∙ held k inside e ec el)
 
-  pub plain_one_port : (k : ℕ) (inside : Ep) (d e : Outward) → is_symmetric (s k).kind ≡ false → Counts v k d
+  pub plain_one_port : (k : ℕ) {inside : Ep} {d e : Outward} → is_symmetric (s k).kind ≡ false → Counts v k d
       → d.inside ≡ inside → Counts v k e → e.inside ≡ inside → d.port ≡ e.port
-  plain_one_port k inside d e h dc dl ec el =
+  plain_one_port k {inside} {d} {e} h dc dl ec el =
       ap (port_or d.port) (sym (held k inside d dc dl) ∙ plain_port (s k).kind h inside d.dst e.dst (live k) ∙ held k inside e ec el)
 
   -- WHAT COMES FROM THE SERVER
@@ -89,20 +89,20 @@ module _ (v : Asker) (g : Grown v.lab v.past) where
   from_server (k ∷ way) inside o dst a e =
       let w : WasAsked (s k) (past k) (now H) (server_of v) e.0.port inside =
       (let_in_where_asked (s k) (past k) (now H) (set_up_past lab H k g) (server_of v) e.0.port inside).0 e.2 in
-      let port : e.0.port ≡ a.0.port = sym w.by_port ∙ one_port k inside (server_of v) w.datagram a.0 w.counts w.left a.1.counts a.1.left w.asked a.1.to in
+      let port : e.0.port ≡ a.0.port = sym w.by_port ∙ one_port k w.counts w.left a.1.counts a.1.left w.asked a.1.to in
       let same : e.0 ≡ left_at lab k a.0 = same_ep_of e.0 (left_at lab k a.0) e.1 port in
       from_server way (left_at lab k a.0) o dst a.2 (subst (λ (x : Ep). EntersPast lab H (now H) (server_of v) way x dst) same e.3)
 
   -- so did what is let in from anybody, where none is symmetric
-  pub from_any : (src : Ep) (way : List ℕ) (inside o dst : Ep) → list_any (λ (k : ℕ). is_symmetric (nat_of lab k).kind) way ≡ false
+  pub from_any : (src : Ep) (way : List ℕ) (inside : Ep) {o dst : Ep} → list_any (λ (k : ℕ). is_symmetric (nat_of lab k).kind) way ≡ false
       → AsksFrom v way inside o → EntersPast lab H (now H) src way inside dst → dst ≡ o
-  from_any src [] inside o dst plain a e = sym e ∙ a
-  from_any src (k ∷ way) inside o dst plain a e =
+  from_any src [] inside plain a e = sym e ∙ a
+  from_any src (k ∷ way) inside {o} {dst} plain a e =
       let both = or_parts (is_symmetric (s k).kind) (list_any (λ (j : ℕ). is_symmetric (nat_of lab j).kind) way) plain in
       let w : WasAsked (s k) (past k) (now H) src e.0.port inside = (let_in_where_asked (s k) (past k) (now H) (set_up_past lab H k g) src e.0.port inside).0 e.2 in
-      let port : e.0.port ≡ a.0.port = sym w.by_port ∙ plain_one_port k inside w.datagram a.0 both.0 w.counts w.left a.1.counts a.1.left in
+      let port : e.0.port ≡ a.0.port = sym w.by_port ∙ plain_one_port k both.0 w.counts w.left a.1.counts a.1.left in
       let same : e.0 ≡ left_at lab k a.0 = same_ep_of e.0 (left_at lab k a.0) e.1 port in
-      from_any src way (left_at lab k a.0) o dst both.1 a.2 (subst (λ (x : Ep). EntersPast lab H (now H) src way x dst) same e.3)
+      from_any src way (left_at lab k a.0) both.1 a.2 (subst (λ (x : Ep). EntersPast lab H (now H) src way x dst) same e.3)
 
   -- and its server is let in there
   pub server_enters : (way : List ℕ) (inside o : Ep) → AsksFrom v way inside o → EntersPast lab H (now H) (server_of v) way inside o
@@ -126,18 +126,18 @@ module _ (v : Asker) (g : Grown v.lab v.past) (src : Ep) (other : src ≡ server
   abbrev IsPlain : List ℕ → Type 0
   IsPlain way = list_any (λ (k : ℕ). is_symmetric (nat_of v.lab k).kind) way ≡ false
 
-  plain_by : (k : ℕ) (i to j : Ep) (d : Outward) → to ≡ server_of v → Asked (nat_of v.lab k).kind src d → SameKey (nat_of v.lab k).kind i to j d.dst
+  plain_by : (k : ℕ) (i : Ep) {to : Ep} (j : Ep) (d : Outward) → to ≡ server_of v → Asked (nat_of v.lab k).kind src d → SameKey (nat_of v.lab k).kind i to j d.dst
       → is_symmetric (nat_of v.lab k).kind ≡ false
-  plain_by k i to j d asks asked key = by (is_symmetric (nat_of v.lab k).kind) refl where
+  plain_by k i {to} j d asks asked key = by (is_symmetric (nat_of v.lab k).kind) refl where
     by : (b : Bool) → is_symmetric (nat_of v.lab k).kind ≡ b → is_symmetric (nat_of v.lab k).kind ≡ false
     by false h = h
     by true h = absurd (other (sym (asked_same (nat_of v.lab k).kind h src d asked) ∙ sym (key_to (nat_of v.lab k).kind i to j d.dst h key) ∙ asks))
 
   -- what is let in from elsewhere, and came to o, is let in to the client's own endpoints, and past no symmetric NAT
-  pub same_place : (way : List ℕ) (x y o : Ep) → AsksFrom v way x o → EntersPast v.lab v.past (now v.past) src way y o → (x ≡ y) × IsPlain way
-  same_place [] x y o a e = (a ∙ sym e, refl)
-  same_place (k ∷ way) x y o a e =
-      let on = same_place way (left_at v.lab k a.0) e.0 o a.2 e.3 in
+  pub same_place : (way : List ℕ) {x y : Ep} (o : Ep) → AsksFrom v way x o → EntersPast v.lab v.past (now v.past) src way y o → (x ≡ y) × IsPlain way
+  same_place [] o a e = (a ∙ sym e, refl)
+  same_place (k ∷ way) {y} o a e =
+      let on = same_place way o a.2 e.3 in
       let st : NatSettings = nat_of v.lab k in
       let h : List NatEntry = nat_history v.lab k v.past in
       let p : IsPast st h (now v.past) = set_up_past v.lab v.past k g in
@@ -148,7 +148,7 @@ module _ (v : Asker) (g : Grown v.lab v.past) (src : Ep) (other : src ≡ server
       counting_datagram_holds_its_port st h (now v.past) p w.datagram w.counts ∙ ap (λ (q : ℕ). Some q) port in
       let key = port_has_one_key st h (now v.past) p a.0.inside a.0.dst w.datagram.inside w.datagram.dst a.0.port mine theirs in
       let plain : is_symmetric st.kind ≡ false =
-      plain_by k a.0.inside a.0.dst w.datagram.inside w.datagram a.1.to w.asked key in (
+      plain_by k a.0.inside w.datagram.inside w.datagram a.1.to w.asked key in (
         sym a.1.left ∙ key_inside st.kind a.0.inside a.0.dst w.datagram.inside w.datagram.dst key ∙ w.left,
         ap (λ (b : Bool). b || list_any (λ (j : ℕ). is_symmetric (nat_of v.lab j).kind) way) plain ∙ on.1,
       )

@@ -43,11 +43,11 @@ passed_then x k d h = by (acted x.lab x.before x.full x.grown.0) where
   by (does j a e act) = of_act j a e act
 
 -- so nothing that was let out is later than now
-found_before : (lab : Lab) (n : ℕ) (c : ClientNode) (there : IsThere lab n c) (k : ℕ) (to : Ep) (e : Outward) (H : List Full) → Grown lab H
+found_before : {lab : Lab} {n : ℕ} {c : ClientNode} (there : IsThere lab n c) (k : ℕ) (to : Ep) (e : Outward) (H : List Full) → Grown lab H
     → find (went_to to) (let_out_of n k H) ≡ Some (Out e) → e.moment.0 ≤ now H
-found_before lab n c there k to e [] g at = absurd (false≢true (ap (λ (o : Option NatEntry). is_some o) at))
-found_before lab n c there k to e (r ∷ H) g at =
-    by (starts n r) (is_node n r.node) at (λ f. found_before lab n c there k to e H g.1 f) where
+found_before there k to e [] g at = absurd (false≢true (ap (λ (o : Option NatEntry). is_some o) at))
+found_before {lab} {n} {c} there k to e (r ∷ H) g at =
+    by (starts n r) (is_node n r.node) at (λ f. found_before there k to e H g.1 f) where
       older : e.moment.0 ≤ now H → e.moment.0 ≤ r.moment
       older before = let later = each_is_later lab H r g in omega (arith, before, later)
 
@@ -79,7 +79,7 @@ held_after x a to (k ∷ way) from o w = (
     goes = w.1.goes;
     late = λ e at.
         let before : e.moment.0 ≤ x.full.moment =
-        found_before x.lab x.number x.row x.there k (server_of (after x)) e (x.full ∷ x.before) x.grown at in
+        found_before x.there k (server_of (after x)) e (x.full ∷ x.before) x.grown at in
         let same = out_moment x a k w.0 w.1.there in
         omega (arith, before, same);
   },
@@ -90,9 +90,9 @@ held_after x a to (k ∷ way) from o w = (
 
 module _ (x : OneMore) (same : SameOut x) where
   -- what is held counts on
-  still_held : (k : ℕ) (inside to : Ep) (d : Outward) → IsHeld (was x) k inside to d → Young x k → Spared x.lab x.full k inside
+  still_held : {k : ℕ} {inside to : Ep} {d : Outward} → IsHeld (was x) k inside to d → Young x k → Spared x.lab x.full k inside
       → IsHeld (after x) k inside to d
-  still_held k inside to d h young here =
+  still_held {k} {inside} {d} h young here =
       let idle = (nat_of x.lab k).idle in
       let past = nat_history x.lab k x.before in
       let ask = young_latest idle x.full.moment (latest_ask (was x) k) young in
@@ -109,13 +109,13 @@ module _ (x : OneMore) (same : SameOut x) where
       }
 
   -- so it does at each of these NATs, which are open, lose nothing, and aren't started anew
-  pub held_on : (to : Ep) (way : List ℕ) (k : ℕ) (inside o : Ep) → IsPart x.lab x.row way k → Held (was x) to (k ∷ way) inside o
+  pub held_on : {to : Ep} (way : List ℕ) {k : ℕ} {inside : Ep} (o : Ep) → IsPart x.lab x.row way k → Held (was x) to (k ∷ way) inside o
       → AllByRecursion (Young x) (k ∷ way) → Spared x.lab x.full k inside → AllByRecursion (λ (j : ℕ). starts j x.full ≡ false) way
       → Held (after x) to (k ∷ way) inside o
-  held_on to [] k inside o part h young here off = (h.0, still_held k inside to h.0 h.1 young.0 here, h.2)
-  held_on to (j ∷ way) k inside o part h young here off = (
+  held_on {to} [] {k} {inside} o part h young here off = (h.0, still_held h.1 young.0 here, h.2)
+  held_on {to} (j ∷ way) {k} {inside} o part h young here off = (
     h.0,
-    still_held k inside to h.0 h.1 young.0 here,
-    held_on to way j (left_at x.lab k h.0) o (next_part x.lab x.row way k j part) h.2 young.1
+    still_held h.1 young.0 here,
+    held_on way o (next_part x.lab x.row way k j part) h.2 young.1
         (spared x k j part.on.0 off.0 h.0) off.1,
   )

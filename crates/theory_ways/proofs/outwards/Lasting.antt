@@ -44,7 +44,7 @@ module _ (the : Walker) where
 
     out : WentOut lab r.passed to (nats_of lab c) c.inside left
     out = subst (λ (ps : List Passing). WentOut lab ps to (nats_of lab c) c.inside left) (sym act.passed)
-        (sent_out lab H r.moment (nats_of lab c) c.inside left to bytes (armed H) e.step.sends (sym act.made ∙ made))
+        (sent_out (record { lab = lab; H = H; m = r.moment; way = nats_of lab c; inside = c.inside; left = left; to = to; bytes = bytes }) (armed H) e.step.sends (sym act.made ∙ made))
 
     off : starts n r ≡ false
     off = not_started n r act.still
@@ -86,31 +86,31 @@ module _ (the : Walker) where
     Lasting H = IsLasting lab has_begun H n c
 
     -- one that starts the client not anew
-    module _ (H : List Full) (r : Full) (off : starts n r ≡ false) (l : Lasting (r ∷ H)) where
+    module _ {H : List Full} {r : Full} (off : starts n r ≡ false) (l : Lasting (r ∷ H)) where
       pub lasting_before : Lasting H
       lasting_before = record { lasts = kept_before lab n c H r off l.lasts; server_open = (open_parts lab n c H r has_begun off l.server_open).1 }
 
-      waits_next : (g : Grown lab (r ∷ H)) (K : List Full) (to left : Ep) → is_node n r.node ≡ false → Waits K H to left → Waits K (r ∷ H) to left
-      waits_next g K to left idle w =
+      waits_next : (g : Grown lab (r ∷ H)) (K : List Full) {to left : Ep} → is_node n r.node ≡ false → Waits K H to left → Waits K (r ∷ H) to left
+      waits_next g K {to} {left} idle w =
           let x : OneMore = one_more_of lab n c there H r g in
           let open_ = open_of (has_begun H) (is_open_along lab H r.moment n c) (begins H w.sent_some)
           (open_parts lab n c H r has_begun off l.server_open).0 in
           let young = all_of (is_open_through lab H r.moment n c) (nats_of lab c) open_ in
           record {
-            held = held_on x (same_out x idle) to (outer_nats_of lab c) c.nat c.inside left (whole_part lab c there.chained) w.held young
+            held = held_on x (same_out x idle) (outer_nats_of lab c) left (whole_part lab c there.chained) w.held young
                 (lost_parts lab n c H r off l.lasts.next).0 (off_parts H r n off (outer_nats_of lab c) l.lasts.outer).0;
             sent_some = ap (λ (b : Bool). cond b false (list_any (is_out_of c.inside) (nat_entries lab c.nat r) || has_sent lab H n c)) off
                 ∙ or_right (list_any (is_out_of c.inside) (nat_entries lab c.nat r)) (has_sent lab H n c) w.sent_some;
             all_out = λ k. same_out x idle k ∙ w.all_out k;
           }
 
-    pub waits_on : (K : List Full) (to left : Ep) → Waits K K to left → (waits : List Full) → Grown lab (waits ++ K)
+    pub waits_on : (K : List Full) {to left : Ep} → Waits K K to left → (waits : List Full) → Grown lab (waits ++ K)
         → AllByRecursion (λ (r : Full). is_node n r.node ≡ false) waits → Lasting (waits ++ K) → Waits K (waits ++ K) to left
-    waits_on K to left w [] g idle l = w
-    waits_on K to left w (r ∷ waits) g idle l =
+    waits_on K w [] g idle l = w
+    waits_on K {to} {left} w (r ∷ waits) g idle l =
         let off : starts n r ≡ false = ap (λ (b : Bool). b && is_restart r.act) idle.0 in
-        waits_next (waits ++ K) r off l g K to left idle.0
-        (waits_on K to left w waits g.1 idle.1 (lasting_before (waits ++ K) r off l))
+        waits_next off l g K idle.0
+        (waits_on K w waits g.1 idle.1 (lasting_before off l))
 
   -- what was asked first is asked still
   pub still_asked : (K H : List Full) → ((k : ℕ) → let_out_of n k H ≡ let_out_of n k K) → (way : List ℕ)

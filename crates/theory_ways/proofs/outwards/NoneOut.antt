@@ -15,7 +15,7 @@ module _ (x : OneMore) where
   climbs_none a (j ∷ way) k part none = (
     none,
     climbs_none a way j (next_part x.lab a.row way k j part)
-        (λ d h. let f = at_outer x.lab a.row x.there.chained x.full.passed (come x a) part.before k j part.up part.on.0 d h in none f.before f.there),
+        (λ d h. let f = at_outer x.lab a.row x.there.chained x.full.passed (come x a) part.before part.up part.on.0 d h in none f.before f.there),
   )
 
   -- of the client

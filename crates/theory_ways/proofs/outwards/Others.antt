@@ -49,7 +49,7 @@ module _ (x : OneMore) (a : Did x) (differ : x.number ≡ a.number → ⊥) wher
         external = in_.external;
         enters = in_.enters ∙ ap (λ (j : ℕ). comes_to j c.inside) nats ∙ ap (comes_to a.row.nat) ends;
       } in
-      differ (one_client lab H x.number a.number x.there.is x.there.listed other_at in_ also)
+      differ (one_client H x.number a.number x.there.is x.there.listed other_at in_ also)
 
   none_first : (o : Ep) → Asks (was x) o → NoNew c.nat c.inside
   none_first o asks d h left =
@@ -58,14 +58,14 @@ module _ (x : OneMore) (a : Did x) (differ : x.number ≡ a.number → ⊥) wher
         by : (p : Passing) → p.nat ≡ c.nat → p.datagram.inside ≡ c.inside → Comes lab a.row r.passed p → ⊥
         by p here from (first at inside) = one_inside o asks (sym here ∙ at) (sym from ∙ inside)
         by p here from (next q way has climb outer inside dst) =
-            apart_from lab x.there.is x.there.chained x.number c (stands lab x.number c x.there) q.nat
+            apart_from lab x.there.is x.there.chained x.number (stands lab x.number c x.there) q.nat
             (outer ∙ ap (λ (j : ℕ). Some j) here) (ap (λ (z : Ep). z.ip) (sym from ∙ inside))
 
   -- AND FROM THERE AT THE ONE OUTSIDE IT
 
   -- two datagrams that count and left NAT k at one port came from one endpoint
-  one_source : (k : ℕ) (d e : Outward) → Counts (after x) k d → Counts (after x) k e → d.port ≡ e.port → d.inside ≡ e.inside
-  one_source k d e dc ec port =
+  one_source : (k : ℕ) {d e : Outward} → Counts (after x) k d → Counts (after x) k e → d.port ≡ e.port → d.inside ≡ e.inside
+  one_source k {d} {e} dc ec port =
       let s : NatSettings = nat_of lab k in
       let past : List NatEntry = nat_history lab k (r ∷ H) in
       let is_past = set_up_past lab (r ∷ H) k x.grown in
@@ -75,14 +75,14 @@ module _ (x : OneMore) (a : Did x) (differ : x.number ≡ a.number → ⊥) wher
       key_inside s.kind d.inside d.dst e.inside e.dst
       (port_has_one_key s past r.moment is_past d.inside d.dst e.inside e.dst e.port first_port second_port)
 
-  none_next : (k j : ℕ) (inside : Ep) (e : Outward) → outer_in lab.chain k ≡ Some j → Counts (after x) k e → e.inside ≡ inside → NoNew k inside
+  none_next : (k : ℕ) {j : ℕ} {inside : Ep} {e : Outward} → outer_in lab.chain k ≡ Some j → Counts (after x) k e → e.inside ≡ inside → NoNew k inside
       → NoNew j (left_at lab k e)
-  none_next k j inside e up counts mine none d h left =
+  none_next k {j} {e} up counts mine none d h left =
       let y = passed_there j r.passed d h in
       by y.passing y.nat (ap (λ (z : Outward). z.inside) y.is ∙ left) (came x a y.passing y.there) where
         by : (p : Passing) → p.nat ≡ j → p.datagram.inside ≡ left_at lab k e → Comes lab a.row r.passed p → ⊥
         by p here from (first at inside') =
-            apart_from lab x.there.is x.there.chained a.number a.row a.act.there k
+            apart_from lab x.there.is x.there.chained a.number a.act.there k
             (up ∙ ap (λ (i : ℕ). Some i) (sym here ∙ at)) (ap (λ (z : Ep). z.ip) (sym inside' ∙ from))
         by p here from (next q way has climb outer inside' dst) =
             let same : left_at lab q.nat q.datagram ≡ left_at lab k e = sym inside' ∙ from in
@@ -90,7 +90,7 @@ module _ (x : OneMore) (a : Did x) (differ : x.number ≡ a.number → ⊥) wher
             let one : q.nat ≡ k = one_nat lab.topology x.there.is q.nat k (nat_of lab k).external (nat_there lab.topology k l.inner) refl
             (external_there lab.topology q.nat (nat_of lab k).external (nat_passed x a q has) (sym (ap (λ (z : Ep). z.ip) same))) in
             let there : Has (outs_at k r.passed) (Out q.datagram) = there_passed k r.passed q has one in
-            none q.datagram there (one_source k q.datagram e (fresh x a k q.datagram there) counts (ap (λ (z : Ep). z.port) same) ∙ mine)
+            none q.datagram there (one_source k (fresh x a k q.datagram there) counts (ap (λ (z : Ep). z.port) same) ∙ mine)
 
   go_on : (way : List ℕ) (k : ℕ) (inside : Ep) (y : Asked x way k inside) → NoNew k inside → AllGo x way k inside y.o
   go_on [] k inside y none = λ d h left. absurd (none d h left)
@@ -106,7 +106,7 @@ module _ (x : OneMore) (a : Did x) (differ : x.number ≡ a.number → ⊥) wher
           off = y.off;
         } in
         go_on way j (left_at lab k e) (asked_next x way k j inside z)
-        (none_next k j inside e y.part.on.0 (asked_counts x (j ∷ way) k inside z) ask.left none),
+        (none_next k y.part.on.0 (asked_counts x (j ∷ way) k inside z) ask.left none),
   )
 
   -- so all that is new there goes to the server: nothing

@@ -30,10 +30,10 @@ module _ (lab : Lab) (H : List Full) (m : ℕ) (c : ClientNode) where
       ⊎ ((q : Passing) × (way : List ℕ) × Has passed q × Climb lab.chain c.nat way q.nat × (outer_in lab.chain q.nat ≡ Some k)
       × (from ≡ left_at lab q.nat q.datagram) × (q.datagram.dst ≡ dst))
 
-  comes : (passed : List Passing) (k : ℕ) (from dst : Ep) (port : ℕ) → Starts passed k from dst
+  comes : {passed : List Passing} {k : ℕ} {from dst : Ep} (port : ℕ) → Starts passed k from dst
       → Comes lab c (passing k m from dst port ∷ passed) (passing k m from dst port)
-  comes passed k from dst port (inl here) = first here.0 here.1
-  comes passed k from dst port (inr on) = next on.0 on.1 (inr on.2) on.3 on.4 on.5 on.6
+  comes port (inl here) = first here.0 here.1
+  comes port (inr on) = next on.0 on.1 (inr on.2) on.3 on.4 on.5 on.6
 
   abbrev After : List ℕ → Ep → Ep → List Passing → List Passing
   After way dst from passed = (crossing lab.topology (nat_pasts lab H) m dst way from passed).passed
@@ -48,20 +48,19 @@ module _ (lab : Lab) (H : List Full) (m : ℕ) (c : ClientNode) where
   at_one way k dst from passed all f (Ok port) = f port
   at_one way k dst from passed all f (Err why) = all
 
-  so_far : (k : ℕ) (dst from : Ep) (passed : List Passing) → Starts passed k from dst → AllCome lab c passed passed → (port : ℕ)
+  so_far : {k : ℕ} {dst from : Ep} {passed : List Passing} → Starts passed k from dst → AllCome lab c passed passed → (port : ℕ)
       → AllCome lab c (passing k m from dst port ∷ passed) (passing k m from dst port ∷ passed)
-  so_far k dst from passed starts all port = (comes passed k from dst port starts, all_more lab c passed (passing k m from dst port) passed all)
+  so_far {k} {dst} {from} {passed} starts all port = (comes port starts, all_more lab c passed (passing k m from dst port) passed all)
 
   -- past it and those outside it
-  crossed : (way : List ℕ) (k top : ℕ) → Climb lab.chain k way top → (before : List ℕ) × Climb lab.chain c.nat before k
-      → (dst from : Ep) (passed : List Passing) → Starts passed k from dst → AllCome lab c passed passed
+  crossed : (way : List ℕ) {k : ℕ} (top : ℕ) → Climb lab.chain k way top → (before : List ℕ) × Climb lab.chain c.nat before k
+      → {dst from : Ep} (passed : List Passing) → Starts passed k from dst → AllCome lab c passed passed
       → AllCome lab c (After (k ∷ way) dst from passed) (After (k ∷ way) dst from passed)
-  crossed [] k top climb up dst from passed starts all = at_one [] k dst from passed all (so_far k dst from passed starts all)
+  crossed [] {k} top climb up {dst} {from} passed starts all = at_one [] k dst from passed all (so_far starts all)
       (nat_answer (nat_set_up lab.topology k) (after_passing passed (nat_pasts lab H) k) m from dst)
-  crossed (j ∷ way) k top climb up dst from passed starts all = at_one (j ∷ way) k dst from passed all
-      (λ (port : ℕ). crossed way j top climb.1 (up.0 ++ j ∷ [], one_more lab.chain c.nat up.0 k j up.1 climb.0) dst
-      (left_at lab k (passing k m from dst port).datagram) (passing k m from dst port ∷ passed)
-      (inr (passing k m from dst port, up.0, inl refl, up.1, climb.0, refl, refl)) (so_far k dst from passed starts all port))
+  crossed (j ∷ way) {k} top climb up {dst} {from} passed starts all = at_one (j ∷ way) k dst from passed all
+      (λ (port : ℕ). crossed way top climb.1 (up.0 ++ j ∷ [], one_more lab.chain c.nat up.0 k j up.1 climb.0) (passing k m from dst port ∷ passed)
+      (inr (passing k m from dst port, up.0, inl refl, up.1, climb.0, refl, refl)) (so_far starts all port))
       (nat_answer (nat_set_up lab.topology k) (after_passing passed (nat_pasts lab H) k) m from dst)
 
   -- and of all that a client sends
@@ -70,7 +69,7 @@ module _ (lab : Lab) (H : List Full) (m : ℕ) (c : ClientNode) where
         → AllCome lab c (crossing_unless fails lab H m dst (c.nat ∷ way) c.inside passed).passed
         (crossing_unless fails lab H m dst (c.nat ∷ way) c.inside passed).passed
     unless true dst passed all = all
-    unless false dst passed all = crossed way c.nat top climb ([], refl) dst c.inside passed (inl (refl, refl)) all
+    unless false dst passed all = crossed way top climb ([], refl) passed (inl (refl, refl)) all
 
     all_sent : (fails : Option ℕ) (i : ℕ) (passed : List Passing) (xs : List Send) → AllCome lab c passed passed
         → AllCome lab c (by_way lab H m (c.nat ∷ way) c.inside fails i passed xs).passed

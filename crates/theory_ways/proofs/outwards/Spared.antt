@@ -74,7 +74,7 @@ module _ (x : OneMore) where
     nobody : (who : ℕ) (c : ClientNode) → client_at lab.topology who ≡ Some c → r.asked ≡ event.Forget j who → c.inside ≡ inside → ⊥
     nobody who c there asked its =
         let nat_is : c.nat ≡ j = behind j who c there (forgotten_by j who asked).behind in
-        apart_from lab x.there.is x.there.chained who c (client_is_there.node lab.topology who c there) k
+        apart_from lab x.there.is x.there.chained who (client_is_there.node lab.topology who c there) k
         (at ∙ ap (λ (i : ℕ). Some i) (sym nat_is)) (ap (λ (e : Ep). e.ip) its)
 
     by : (added : List NatEntry) → nat_entries lab j r ≡ added → NatGrows lab r j added → list_any (is_loss_of inside) added ≡ false

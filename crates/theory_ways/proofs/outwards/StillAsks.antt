@@ -48,10 +48,10 @@ module _ (x : OneMore) where
   }
 
   -- two datagrams to the server that count leave one port
-  pub one_exit : (k : ℕ) (inside : Ep) (d e : Outward) → Counts (after x) k d → d.inside ≡ inside → d.dst ≡ P
+  pub one_exit : (k : ℕ) {inside : Ep} {d e : Outward} → Counts (after x) k d → d.inside ≡ inside → d.dst ≡ P
       → Counts (after x) k e → e.inside ≡ inside → e.dst ≡ P → left_at lab k d ≡ left_at lab k e
-  one_exit k inside d e dc dl dt ec el et = ap (λ (p : ℕ). record { ip = (nat_of lab k).external; port = p })
-      (one_port (after x) x.grown k inside P d e dc dl ec el (asks_it (nat_of lab k).kind P d dt) et)
+  one_exit k {inside} {d} {e} dc dl dt ec el et = ap (λ (p : ℕ). record { ip = (nat_of lab k).external; port = p })
+      (one_port (after x) x.grown k dc dl ec el (asks_it (nat_of lab k).kind P d dt) et)
 
   -- what it asked counts
   pub asked_counts : (way : List ℕ) (k : ℕ) (inside : Ep) (a : Asked way k inside) → Counts (after x) k a.asks.0
@@ -60,7 +60,7 @@ module _ (x : OneMore) where
   -- what is asked after the record leaves where it left before
   pub exit : (way : List ℕ) (k : ℕ) (inside : Ep) (a : Asked way k inside) (d : Outward) → IsAsk (after x) k inside d → left_at lab k d ≡ left_at lab k a.asks.0
   exit way k inside a d ask =
-      one_exit k inside d a.asks.0 ask.counts ask.left ask.to (asked_counts way k inside a) a.asks.1.left a.asks.1.to
+      one_exit k ask.counts ask.left ask.to (asked_counts way k inside a) a.asks.1.left a.asks.1.to
 
   pub same_end : (way : List ℕ) (k : ℕ) (inside : Ep) (a : Asked way k inside) (o : Ep) → AsksFrom (after x) (k ∷ way) inside o → a.o ≡ o
   same_end [] k inside a o b = sym a.asks.2 ∙ sym (exit [] k inside a b.0 b.1) ∙ b.2
@@ -134,30 +134,30 @@ module _ (x : OneMore) where
             counts = subst (Counts (after x) k) (sym same) (asked_counts way k inside b);
           }
 
-    before_next : (way : List ℕ) (k j : ℕ) (inside : Ep) (d : Outward) → IsAsk (after x) k inside d → Before (j ∷ way) k inside
+    before_next : {way : List ℕ} {k j : ℕ} {inside : Ep} {d : Outward} → IsAsk (after x) k inside d → Before (j ∷ way) k inside
         → Before way j (left_at lab k d)
-    before_next way k j inside d ask (inr none) = inr none.1
-    before_next way k j inside d ask (inl a) =
+    before_next ask (inr none) = inr none.1
+    before_next {way} {k} {j} {inside} {d} ask (inl a) =
         inl (subst (Asked way j) (sym (exit (j ∷ way) k inside a d ask)) (asked_next way k j inside a))
 
     -- what the next NAT let out came from where the ask left
-    pub came_next : (way : List ℕ) (k j : ℕ) (inside : Ep) (d : Outward) → IsPart lab c (j ∷ way) k → CameFrom k inside → IsAsk (after x) k inside d
+    pub came_next : {way : List ℕ} {k j : ℕ} {inside : Ep} {d : Outward} → IsPart lab c (j ∷ way) k → CameFrom k inside → IsAsk (after x) k inside d
         → CameFrom j (left_at lab k d)
-    came_next way k j inside d part came ask e h to =
-        let f : IsFrom lab k r.passed e = at_outer lab c x.there.chained r.passed own.come part.before k j part.up part.on.0 e h in
+    came_next {k} {j} {inside} {d} part came ask e h to =
+        let f : IsFrom lab k r.passed e = at_outer lab c x.there.chained r.passed own.come part.before part.up part.on.0 e h in
         let before_to : f.before.dst ≡ P = f.to ∙ to in
-        f.inside ∙ one_exit k inside f.before d (own.fresh k f.before f.there) (came f.before f.there before_to) before_to
+        f.inside ∙ one_exit k (own.fresh k f.before f.there) (came f.before f.there before_to) before_to
         ask.counts ask.left ask.to
 
     -- it asks from there along these NATs, where each let something out to the server
-    pub own_asks : (way : List ℕ) (k : ℕ) (inside : Ep) → IsPart lab c way k → CameFrom k inside → Before way k inside
+    pub own_asks : (way : List ℕ) {k : ℕ} {inside : Ep} → IsPart lab c way k → CameFrom k inside → Before way k inside
         → AllByRecursion (Latest (after x)) (k ∷ way)
         → (o : Ep) × AsksFrom (after x) (k ∷ way) inside o
-    own_asks [] k inside part came before latest =
+    own_asks [] {k} {inside} part came before latest =
         let ask = now_ask [] k inside came before latest.0 in
         (left_at lab k latest.0.0, (latest.0.0, ask, refl))
-    own_asks (j ∷ way) k inside part came before latest =
+    own_asks (j ∷ way) {k} {inside} part came before latest =
         let ask = now_ask (j ∷ way) k inside came before latest.0 in
-        let rest = own_asks way j (left_at lab k latest.0.0) (next_part lab c way k j part) (came_next way k j inside latest.0.0 part came ask)
-        (before_next way k j inside latest.0.0 ask before) latest.1 in
+        let rest = own_asks way (next_part lab c way k j part) (came_next part came ask)
+        (before_next ask before) latest.1 in
         (rest.0, (latest.0.0, ask, rest.1))

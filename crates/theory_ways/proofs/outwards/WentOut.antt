@@ -46,10 +46,10 @@ module _ (lab : Lab) (H : List Full) (m : ℕ) (to : Ep) where
         by f (Err why) = h
 
   -- one that leaves went out
-  went_out : (way : List ℕ) (from : Ep) (passed : List Passing) (o : Ep) → (Crossed way from passed).leaves ≡ Ok o
+  went_out : (way : List ℕ) (from : Ep) (passed : List Passing) {o : Ep} → (Crossed way from passed).leaves ≡ Ok o
       → WentOut lab (Crossed way from passed).passed to way from o
-  went_out [] from passed o e = ap (where_left from) e
-  went_out (k ∷ way) from passed o e = by (λ port. went_out way (exit k from port) (so_far k from passed port) o)
+  went_out [] from passed e = ap (where_left from) e
+  went_out (k ∷ way) from passed {o} e = by (λ port. went_out way (exit k from port) (so_far k from passed port) {o = o})
       (nat_answer (nat_set_up lab.topology k) (after_passing passed (nat_pasts lab H) k) m from to) e where
         first : (port : ℕ) → IsOut (Crossed way (exit k from port) (so_far k from passed port)).passed k from to (passing k m from to port).datagram
         first port = record {
@@ -83,7 +83,20 @@ abbrev is_one : List Made → Bool
 is_one (x ∷ []) = true
 is_one _ = false
 
-module _ (lab : Lab) (H : List Full) (m : ℕ) (way : List ℕ) (inside left to : Ep) (bytes : List ℕ) where
+-- a datagram that went out along a way
+pub record WayTaken : Type 0 where
+  pub lab : Lab
+  pub H : List Full
+  pub m : ℕ
+  pub way : List ℕ
+  pub inside : Ep
+  pub left : Ep
+  pub to : Ep
+  pub bytes : List ℕ
+
+module _ (way_taken : WayTaken) where
+  open way_taken use {lab, H, m, way, inside, left, to, bytes}
+
   abbrev Crossing_unless : Bool → Ep → Crossing
   Crossing_unless fails dst = crossing_unless fails lab H m dst way inside []
 
@@ -100,7 +113,7 @@ module _ (lab : Lab) (H : List Full) (m : ℕ) (way : List ℕ) (inside left to 
         let same : o ≡ left = ap (source_or o) f in
         let its : x.to ≡ to = ap (destination_or x.to) f in
         subst (λ (z : Ep). WentOut lab (Crossing_unless false x.to).passed z way inside left) its
-        (went_out lab H m x.to way inside [] left (at ∙ ap (λ (z : Ep). Ok z) same))
+        (went_out lab H m x.to way inside [] (at ∙ ap (λ (z : Ep). Ok z) same))
     by (Err why) at f = absurd (false≢true (ap is_sent f))
 
   pub sent_out : (fails : Option ℕ) (xs : List Send) → (by_way lab H m way inside fails 0 [] xs).made ≡ sent (udp left to bytes) ∷ []

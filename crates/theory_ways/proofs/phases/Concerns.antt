@@ -137,7 +137,7 @@ module _ (x : OneMore) (calm : IsCalm x) where
   -- the client's own
   own_ask : (e : Entry) → IsActOf lab H r n (client c) e → AskedAll ⊎ NoneBefore x (way_of (was x)) → AllByRecursion (Latest (after x)) (way_of (was x))
       → HasAsked (after x)
-  own_ask e act before latest = own_asks x (own_record e act) outer c.nat c.inside (whole_part lab c x.there.chained)
+  own_ask e act before latest = own_asks x (own_record e act) outer {inside = c.inside} (whole_part lab c x.there.chained)
       (λ d h to. at_next lab c x.there.chained r.passed (come x (own_did x e act)) d h) before latest
 
   pub asks_next : AsksCount (was x) → IsOpen ⊎ SentNothing → Concerns → AsksCount (after x)

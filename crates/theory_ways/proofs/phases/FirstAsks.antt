@@ -31,7 +31,16 @@ known_of true a b x y h e f g = absurd (false≢true (sym e))
 known_of false true b x y h e f g = absurd (false≢true (sym f))
 known_of false false false x y h e f g = absurd (false≢true g)
 
-module _ (x : OneMore) (calm : IsCalm x) (e : Entry) (act : IsActOf x.lab x.before x.full x.number (client x.row) e) where
+-- an act of the client in a calm history
+pub record CalmAct : Type 0 where
+  pub x : OneMore
+  pub calm : IsCalm x
+  pub e : Entry
+  pub act : IsActOf x.lab x.before x.full x.number (client x.row) e
+
+module _ (calm_act : CalmAct) where
+  open calm_act use {x, calm, e, act}
+
   abbrev lab : Lab
   lab = x.lab
 
@@ -109,8 +118,8 @@ module _ (x : OneMore) (calm : IsCalm x) (e : Entry) (act : IsActOf x.lab x.befo
   -- THE FIRST DATAGRAM
 
   -- an ask is new where there was none
-  newly : (k : ℕ) (inside : Ep) (d : Outward) → Nothing n H k → IsAsk (after x) k inside d → Has (outs_at k r.passed) (Out d)
-  newly k inside d none ask = by (new_or_old x (own_record x calm e act) k d ask.latest) where
+  newly : {k : ℕ} {inside : Ep} {d : Outward} → Nothing n H k → IsAsk (after x) k inside d → Has (outs_at k r.passed) (Out d)
+  newly {k} {d} none ask = by (new_or_old x (own_record x calm e act) k d ask.latest) where
     by : (Has (outs_at k r.passed) (Out d) × (d.dst ≡ P)) ⊎ (latest_ask (was x) k ≡ Some (Out d)) → Has (outs_at k r.passed) (Out d)
     by (inl new) = new.0
     by (inr old) = absurd (false≢true (ap (λ (o : Option NatEntry). is_some o) (sym (ap (find (went_to P)) none.let_out) ∙ old)))
@@ -122,29 +131,29 @@ module _ (x : OneMore) (calm : IsCalm x) (e : Entry) (act : IsActOf x.lab x.befo
       (ap (λ (z : Ep). same_ep z inside) left ∙ same_ep-self inside)
 
   -- what NAT j let out first came from where it knew nothing
-  none_at : SendsGo → (j : ℕ) (inside : Ep) (d : Outward) → CameFrom x j inside → Nothing n H j → passed_known lab (r ∷ H) n j ≡ false
+  none_at : SendsGo → {j : ℕ} {inside : Ep} {d : Outward} → CameFrom x j inside → Nothing n H j → passed_known lab (r ∷ H) n j ≡ false
       → IsAsk (after x) j inside d → NoneOld x j inside
-  none_at f j inside d came_j nothing_j known_j ask =
-      let y : Came r.passed j = came j r.passed d (newly j inside d nothing_j ask) in
+  none_at f {j} {inside} {d} came_j nothing_j known_j ask =
+      let y : Came r.passed j = came j r.passed d (newly nothing_j ask) in
       let from : y.inside ≡ inside = sym y.from ∙ came_j y.datagram y.there (f j y.datagram y.there) in
       let unknown : knows_endpoint lab H j r.moment (first_from j r.passed) ≡ false = known_of (starts n r) (has_passed H n j) (is_node n r.node)
       (knows_endpoint lab H j r.moment (first_from j r.passed)) (passed_known lab H n j) known_j calm.off nothing_j.passed (own_node x calm e act) in
       none_old j inside (ap (knows_endpoint lab H j r.moment) (ap (λ (z : Ep). Some z) (sym from) ∙ sym y.is) ∙ unknown)
 
-  new_all : SendsGo → (way : List ℕ) (k : ℕ) (inside o : Ep) → IsPart lab c way k → AllByRecursion (Nothing n H) (k ∷ way) → Unknown x way
+  new_all : SendsGo → (way : List ℕ) {k : ℕ} {inside : Ep} (o : Ep) → IsPart lab c way k → AllByRecursion (Nothing n H) (k ∷ way) → Unknown x way
       → CameFrom x k inside × NoneOld x k inside → AllNew x way k inside o
-  new_all f [] k inside o part nothing_here known fresh = ((λ d h left. f k d h), fresh.1)
-  new_all f (j ∷ way) k inside o part nothing_here known fresh = (
+  new_all f [] {k} o part nothing_here known fresh = ((λ d h left. f k d h), fresh.1)
+  new_all f (j ∷ way) {k} {inside} o part nothing_here known fresh = (
     ((λ d h left. f k d h), fresh.1),
     λ a ask asks.
-        let came_j = came_next x (own_record x calm e act) way k j inside a part fresh.0 ask in
-        new_all f way j (left_at lab k a) o (next_part lab c way k j part) nothing_here.1 known.1
-        (came_j, none_at f j (left_at lab k a) asks.0 came_j nothing_here.1.0 known.0 asks.1),
+        let came_j = came_next x (own_record x calm e act) part fresh.0 ask in
+        new_all f way {inside = (left_at lab k a)} o (next_part lab c way k j part) nothing_here.1 known.1
+        (came_j, none_at f came_j nothing_here.1.0 known.0 asks.1),
   )
 
   -- so all that counts went to the server, once it asked along its way
   pub alone_first : q.phase ≡ Cone → is_told (turn_of e) ≡ false → SentNothing x calm → IsUnseenAt (was x) r.moment → Unknown x (outer_nats_of lab c)
       → (o : Ep) → Asks (after x) o → AloneFrom (after x) (way_of (was x)) c.inside
   alone_first cone h none unseen known o a = first_alone x (outer_nats_of lab c) c.nat c.inside o a
-      (new_all (sends_go cone h) (outer_nats_of lab c) c.nat c.inside o (whole_part lab c x.there.chained) (nothing_yet x calm none) known
+      (new_all (sends_go cone h) (outer_nats_of lab c) {inside = c.inside} o (whole_part lab c x.there.chained) (nothing_yet x calm none) known
       (λ d there to. at_next lab c x.there.chained r.passed (come x (own_did x e act)) d there, unseen))

@@ -95,27 +95,27 @@ module _ (x : OneMore) (calm : IsCalm x) where
       unseen w.datagram (subst (λ (m : ℕ). Contains (counting next.idle m past) w.datagram) (sym t.moment) w.counts) w.left
 
   -- so the client has asked where its phase needs it
-  needs_by : (e : Entry) → IsToldAlong x e → IsReady → Open ⊎ IsFirst → (ph : Phase) → q.phase ≡ ph → (k : Option Ep) (a : Option Ip6)
+  needs_by : {e : Entry} → IsToldAlong x e → IsReady → Open ⊎ IsFirst → (ph : Phase) → q.phase ≡ ph → (k : Option Ep) (a : Option Ip6)
       → IsSoundAlong (was x) ph k a → needs_asks ph ≡ true → HasAsked (was x)
-  needs_by e t ready (inl open_) ph at k a i need = asked ready.asks open_
-  needs_by e t ready (inr none) Cone at k a i need = absurd (unheard e t (none.1 i.0).0)
-  needs_by e t ready (inr none) Secondary at k a i need = asked ready.asks (ready.rests (ap is_resting at))
-  needs_by e t ready (inr none) Qualified at k a i need = asked ready.asks (ready.rests (ap is_resting at))
-  needs_by e t ready (inr none) Restricted at k a i need = absurd (false≢true need)
-  needs_by e t ready (inr none) Symmetric at k a i need = absurd (false≢true need)
-  needs_by e t ready (inr none) OffLine at k a i need = absurd (false≢true need)
+  needs_by t ready (inl open_) ph at k a i need = asked ready.asks open_
+  needs_by {e} t ready (inr none) Cone at k a i need = absurd (unheard e t (none.1 i.0).0)
+  needs_by t ready (inr none) Secondary at k a i need = asked ready.asks (ready.rests (ap is_resting at))
+  needs_by t ready (inr none) Qualified at k a i need = asked ready.asks (ready.rests (ap is_resting at))
+  needs_by t ready (inr none) Restricted at k a i need = absurd (false≢true need)
+  needs_by t ready (inr none) Symmetric at k a i need = absurd (false≢true need)
+  needs_by t ready (inr none) OffLine at k a i need = absurd (false≢true need)
 
   needs : (e : Entry) → IsToldAlong x e → IsReady → IsSoundNow (was x) → needs_asks q.phase ≡ true → HasAsked (was x)
-  needs e t ready i = needs_by e t ready ready.begun q.phase refl q.kept q.address i
+  needs e t ready i = needs_by t ready ready.begun q.phase refl q.kept q.address i
 
   -- ONE RECORD MORE
 
-  own_cone : (e : Entry) → IsActOf lab H r n (client c) e → is_told (turn_of e) ≡ false → IsReady → Open ⊎ IsFirst → c.cone_try ≡ true → q.phase ≡ Cone
+  own_cone : {e : Entry} → IsActOf lab H r n (client c) e → is_told (turn_of e) ≡ false → IsReady → Open ⊎ IsFirst → c.cone_try ≡ true → q.phase ≡ Cone
       → IsAlone (was x) → IsAlone (after x)
-  own_cone e act h ready (inl open_) tries cone alone o b = alone_by ready open_
-      (λ a. go_all x calm (sends_go x calm e act cone h) outer c.nat c.inside a.o) alone
-  own_cone e act h ready (inr none) tries cone alone o b =
-      let f = none.1 tries in alone_first x calm e act cone h none.0 f.0 f.1 o b
+  own_cone {e} act h ready (inl open_) tries cone alone o b = alone_by ready open_
+      (λ a. go_all x calm (sends_go (record { x = x; calm = calm; e = e; act = act }) cone h) outer c.nat c.inside a.o) alone
+  own_cone {e} act h ready (inr none) tries cone alone o b =
+      let f = none.1 tries in alone_first (record { x = x; calm = calm; e = e; act = act }) cone h none.0 f.0 f.1 o b
 
   other_cone : SameOut x → ((a : AskedAll x calm) → Go x calm a) → IsReady → Open ⊎ IsFirst → IsAlone (was x) → IsAlone (after x)
   other_cone out goes ready (inl open_) alone o b = alone_by ready open_ goes alone
@@ -129,7 +129,7 @@ module _ (x : OneMore) (calm : IsCalm x) where
         let t = is_told_along x calm e act h in
         of_advert x calm e act t (needs e t ready i) i
     of_turn e act false h = of_rest x calm e act h
-        (stays_if (λ tries cone alone. own_cone e act h ready ready.begun tries cone alone) ready q.phase refl q.kept q.address i)
+        (stays_if (λ tries cone alone. own_cone act h ready ready.begun tries cone alone) ready q.phase refl q.kept q.address i)
 
     by : Concerns x calm → IsSoundNow (after x)
     by (own e act) = of_turn e act (is_told (turn_of e)) refl

@@ -41,7 +41,7 @@ module _ (x : OneMore) where
   still_alone (j ∷ way) k inside a go alone d counts left =
       let to = each_goes k inside go.0 (λ y w l. (alone y w l).0) d counts left in
       let exit : left_at lab k a.asks.0 ≡ left_at lab k d =
-      one_exit x k inside a.asks.0 d (asked_counts x (j ∷ way) k inside a) a.asks.1.left a.asks.1.to counts left to in
+      one_exit x k (asked_counts x (j ∷ way) k inside a) a.asks.1.left a.asks.1.to counts left to in
       let rest = still_alone way j (left_at lab k a.asks.0) (asked_next x way k j inside a) (go.1 a.asks.0 a.asks.1 a.asks.2)
       (alone a.asks.0 a.asks.1.counts a.asks.1.left).1 in
       (to, subst (λ (e : Ep). AloneFrom (after x) (j ∷ way) e) exit rest)
@@ -72,6 +72,6 @@ module _ (x : OneMore) where
   first_alone [] k inside o a new d counts left = (new_goes k inside new.0 new.1 d counts left, tt)
   first_alone (j ∷ way) k inside o a new d counts left =
       let to = new_goes k inside new.0.0 new.0.1 d counts left in
-      let exit : left_at lab k a.0 ≡ left_at lab k d = one_exit x k inside a.0 d a.1.counts a.1.left a.1.to counts left to in
+      let exit : left_at lab k a.0 ≡ left_at lab k d = one_exit x k a.1.counts a.1.left a.1.to counts left to in
       let rest = first_alone way j (left_at lab k a.0) o a.2 (new.1 a.0 a.1 a.2) in
       (to, subst (λ (e : Ep). AloneFrom (after x) (j ∷ way) e) exit rest)

@@ -82,7 +82,7 @@ module _ (v : Asker) (dst : Ep) (t : TellsOf v dst) where
   in_cone w tries alone e =
       let cones = past_cones (way_of v) v.row.inside alone e in
       let plain = all_plain lab (way_of v) cones in
-      good true w (λ o asks. from_any v t.grown Q (way_of v) v.row.inside o dst plain asks e) plain (λ h. (cones, tries))
+      good true w (λ o asks. from_any v t.grown Q (way_of v) v.row.inside plain asks e) plain (λ h. (cones, tries))
 
   -- from the primary address
   in_restricted : Comes (server_of v) → IsOwn v dst
@@ -90,7 +90,7 @@ module _ (v : Asker) (dst : Ep) (t : TellsOf v dst) where
 
   -- in phase Secondary, from the secondary address
   plain_own : (src : Ep) → has_symmetric lab v.row ≡ false → Comes src → IsOwn v dst
-  plain_own src plain e o asks = from_any v t.grown src (way_of v) v.row.inside o dst plain asks e
+  plain_own src plain e o asks = from_any v t.grown src (way_of v) v.row.inside plain asks e
 
   -- WHAT THE PHASE SAYS AFTER IT
 
@@ -102,7 +102,7 @@ module _ (v : Asker) (dst : Ep) (t : TellsOf v dst) where
   by_second w None a is e asks same eq = absurd is
   by_second w (Some k) a is e asks true eq =
       let at : dst ≡ asks.0 = same_ep-true dst k eq ∙ is asks.0 asks.1 in
-      let plain : has_symmetric lab v.row ≡ false = (same_place v t.grown Q other (way_of v) v.row.inside v.row.inside asks.0 asks.1
+      let plain : has_symmetric lab v.row ≡ false = (same_place v t.grown Q other (way_of v) asks.0 asks.1
       (subst (λ (x : Ep). EntersPast lab H (now H) Q (way_of v) v.row.inside x) at e)).1 in
       good false w (plain_own Q plain e) plain (λ h. absurd (false≢true h))
   by_second w (Some k) a is e asks false eq = by (has_symmetric lab v.row) refl where
@@ -117,14 +117,14 @@ module _ (v : Asker) (dst : Ep) (t : TellsOf v dst) where
   by_refresh w src k (Some own) is e true = is
   by_refresh w src k (Some own) is e false = good (has_cone own) w (plain_own src is.plain e) is.plain is.cone
 
-  pub told : (w : Option ℕ) (q : Qualification) (cone : Bool) (ph : Phase) → Hears v dst q cone ph → (same : Bool)
+  pub told : (w : Option ℕ) {q : Qualification} {cone : Bool} (ph : Phase) → Hears v dst q cone ph → {same : Bool}
       → is_same_origin (Some dst) (origin_before q ph) ≡ same → After w ph q.kept q.address (phase_line ph same)
-  told w q cone Cone h same eq = let a = h.asked refl in in_cone w h.sound.0 (h.sound.1 a.0 a.1) h.enters
-  told w q cone Restricted h same eq = in_restricted h.enters
-  told w q cone Secondary h same eq = by_second w q.kept q.address h.sound h.enters (h.asked refl) same eq
-  told w q cone Qualified h same eq = by_refresh w (expected_in s Qualified cone) q.kept q.address h.sound h.enters same
-  told w q cone Symmetric h same eq = h.sound
-  told w q cone OffLine h same eq = tt
+  told w Cone h eq = let a = h.asked refl in in_cone w h.sound.0 (h.sound.1 a.0 a.1) h.enters
+  told w Restricted h eq = in_restricted h.enters
+  told w {q} Secondary h {same} eq = by_second w q.kept q.address h.sound h.enters (h.asked refl) same eq
+  told w {q} {cone} Qualified h {same} eq = by_refresh w (expected_in s Qualified cone) q.kept q.address h.sound h.enters same
+  told w Symmetric h eq = h.sound
+  told w OffLine h eq = tt
 
   -- IT TELLS NO OTHER ADDRESS
 
@@ -135,12 +135,12 @@ module _ (v : Asker) (dst : Ep) (t : TellsOf v dst) where
   unchanged_by src (Some own) is e asks false eq = absurd (false≢true
       (sym eq ∙ ap (same_ep dst) (is.opened asks.0 asks.1 ∙ sym (plain_own src is.plain e asks.0 asks.1)) ∙ same_ep-self dst))
 
-  pub told_same : (q : Qualification) (cone : Bool) (ph : Phase) → Hears v dst q cone ph → (same : Bool)
+  pub told_same : {q : Qualification} {cone : Bool} (ph : Phase) → Hears v dst q cone ph → (same : Bool)
       → is_same_origin (Some dst) (origin_before q ph) ≡ same → is_changed (phase_line ph same) ≡ false
-  told_same q cone Cone h same eq = refl
-  told_same q cone Restricted h same eq = refl
-  told_same q cone Secondary h true eq = refl
-  told_same q cone Secondary h false eq = refl
-  told_same q cone Qualified h same eq = unchanged_by (expected_in s Qualified cone) q.address h.sound h.enters (h.asked refl) same eq
-  told_same q cone Symmetric h same eq = refl
-  told_same q cone OffLine h same eq = refl
+  told_same Cone h same eq = refl
+  told_same Restricted h same eq = refl
+  told_same Secondary h true eq = refl
+  told_same Secondary h false eq = refl
+  told_same {q} {cone} Qualified h same eq = unchanged_by (expected_in s Qualified cone) q.address h.sound h.enters (h.asked refl) same eq
+  told_same Symmetric h same eq = refl
+  told_same OffLine h same eq = refl

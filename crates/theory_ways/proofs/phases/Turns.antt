@@ -78,7 +78,7 @@ module _ (x : OneMore) (calm : IsCalm x) (e : Entry) (act : IsActOf x.lab x.befo
   pub of_advert : (t : IsToldAlong x e) → HasAskedIn (was x) q.phase → IsSoundNow (was x) → IsSoundNow (after x)
   of_advert t asks i =
       let w = flags_word s e.words in
-      let then_ = told (was x) t.dst (tells_of t) w q (is_cone q) q.phase (hears t asks i) (is_same_origin (Some t.dst) (origin_before q q.phase)) refl in
+      let then_ = told (was x) t.dst (tells_of t) w q.phase (hears t asks i) {same = (is_same_origin (Some t.dst) (origin_before q q.phase))} refl in
       let by_fate = subst (After (was x) t.dst (tells_of t) w q.phase q.kept q.address) t.phase then_ in
       let by_input = subst (λ (o : Option Ep). IsSoundAlong (was x) (unwrap_or (begins (turn_of e)) q.phase)
       (kept_then q.phase (turn_of e) o q.kept) (address_then s q.phase (turn_of e) w o q.address)) (sym t.origin) by_fate in
@@ -87,9 +87,9 @@ module _ (x : OneMore) (calm : IsCalm x) (e : Entry) (act : IsActOf x.lab x.befo
   -- it tells no other address
   pub no_change : (t : IsToldAlong x e) → HasAskedIn (was x) q.phase → IsSoundNow (was x) → is_changed e.step.fate ≡ false
   no_change t asks i = ap (λ (f : Fate). is_changed f) (sym t.phase)
-      ∙ told_same (was x) t.dst (tells_of t) q (is_cone q) q.phase (hears t asks i) (is_same_origin (Some t.dst) (origin_before q q.phase)) refl
+      ∙ told_same (was x) t.dst (tells_of t) q.phase (hears t asks i) (is_same_origin (Some t.dst) (origin_before q q.phase)) refl
 
   -- ANY OTHER ENTRY
 
   pub of_rest : is_told (turn_of e) ≡ false → IsSoundAlong (after x) q.phase q.kept q.address → IsSoundNow (after x)
-  of_rest h stays = entry_then (untold_along (after x) (turn_of e) (flags_word s e.words) (origin_given e.input) q.kept q.address h q.phase stays)
+  of_rest h stays = entry_then (untold_along (record { v = after x; u = turn_of e; w = flags_word s e.words; o = origin_given e.input; k = q.kept; a = q.address; h = h }) q.phase stays)

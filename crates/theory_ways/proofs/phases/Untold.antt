@@ -3,7 +3,19 @@ use Rattle.theory_ways.proofs.Words.{Cone, Ep, Ip6, None, OffLine, Option, Phase
 use Rattle.theory_ways.proofs.phases.OneMore.{Asker}
 use Rattle.theory_ways.proofs.phases.Sound.{settings_of, OwnOrigin, GoodAddress, IsSoundAlong}
 
-module _ (v : Asker) (u : Turn) (w : Option ℕ) (o k : Option Ep) (a : Option Ip6) (h : is_told u ≡ false) where
+-- a turn by which the client is told nothing
+pub record NothingTold : Type 0 where
+  pub v : Asker
+  pub u : Turn
+  pub w : Option ℕ
+  pub o : Option Ep
+  pub k : Option Ep
+  pub a : Option Ip6
+  pub h : is_told u ≡ false
+
+module _ (nothing_told : NothingTold) where
+  open nothing_told use {v, u, w, o, k, a, h}
+
   -- what is known after it
   abbrev Then : Phase → Phase → Type 0
   Then begun p = IsSoundAlong v begun (kept_then p u o k) (address_then (settings_of v) p u w o a)

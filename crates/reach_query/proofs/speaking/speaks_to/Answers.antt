@@ -1,4 +1,4 @@
-use Rattle.reach_query.proofs.Words.{ChainsStandFor, ChainsState, Ep, IsTopology, Option, Result, TopologyState, ap, chain_out, client, embedded, false≢true, is_from, is_nat, lab_in, nat_pasts, node_at, now, speaks_to, subst, sym, way_to, ℕ, ◌∙◌, ◌≡◌}
+use Rattle.reach_query.proofs.Words.{ChainsStandFor, ChainsState, IsTopology, TopologyState, ap, chain_out, false≢true, is_from, is_nat, lab_in, nat_pasts, node_at, speaks_to, subst, sym, way_to, ◌∙◌, ◌≡◌}
 use Rattle.reach_query.proofs.Spoken.{its_nat}
 use Rattle.reach_query.proofs.speaking.speaks_to.Goals as goal
 

@@ -1,6 +1,5 @@
-use Rattle.load_ends.proofs.Words.{[], err_from_is_err_and, map, packets_line, whereabouts_line, ◌∷◌}
+use Rattle.load_ends.proofs.Words.{[], both_written, ended_early, err_from_is_err_and, map, packets_line, whereabouts_line, ◌∷◌}
 use Rattle.load_ends.proofs.Places.{all_told}
-use Rattle.load_ends.proofs.Told.{both_written, ended_early}
 use Rattle.load_ends.proofs.ends_table.EndsTable.write_ends.Goals as goal
 
 pub returns-in_err-write_packets : goal.returns-in_err-write_packets

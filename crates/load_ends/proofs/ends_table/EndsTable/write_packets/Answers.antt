@@ -1,5 +1,5 @@
 use Rattle.load_ends.proofs.Words.{Err, Failed, Ok, TopologyState, Writing, [], arith, err_from_is_err_and, length, refl, subst, where_is, whereabouts_line, ◌<◌, ◌∷◌, ◌≤◌}
-use Rattle.load_ends.proofs.Told.{IsThere, none_told, is_there, one_told, front_told, all_written, all_counted}
+use Rattle.load_ends.proofs.Told.{NextTold, none_told, next_told, one_told, front_told, all_written, all_counted}
 use Rattle.load_ends.proofs.ends_table.EndsTable.write_packets.Goals as goal
 
 pub loop-place-init : goal.loop-place-init
@@ -24,10 +24,10 @@ loop-place-preserved g c =
     let mid = g.K.Sink.state c.loop-place.out in
     let new = g.K.Sink.state c.write_packet.new.out in
     let within : i < length rows = omega (arith, c.loop-place-test.true, c.deref-row-items.ensures.len) in
-    let there : IsThere w k rows i x = is_there w k rows _ i c.moment.result.0 _ x c.ends_of-ends.ensures c.deref-row-items.ensures.value within c.moment.ensures.kept in
+    let next : NextTold w k rows i x = next_told w k rows _ i c.moment.result.0 _ x c.ends_of-ends.ensures c.deref-row-items.ensures.value within c.moment.ensures.kept in
     let line : Writing {E = Failed} mid new (whereabouts_line w.topology x ∷ []) (Ok tt) =
     subst (λ (t : TopologyState). Writing {E = Failed} mid new (whereabouts_line t x ∷ []) (Ok tt)) c.topology.ensures c.in_ok-write_packet.ensures in
-    one_told w k rows (g.K.Sink.state c.args.out.now) mid new c.loop-place.counts i x within there told c.add.new.self line (c.add.ensures told.ws x told.counted refl)
+    one_told w k rows (g.K.Sink.state c.args.out.now) new next told c.add.new.self line (c.add.ensures told.ws x told.counted refl)
 
 pub returns-in_err-write_packet : goal.returns-in_err-write_packet
 returns-in_err-write_packet g c =
@@ -41,11 +41,11 @@ returns-in_err-write_packet g c =
     let new = g.K.Sink.state c.write_packet.new.out in
     let p = err_from_is_err_and c.from_residual.result c.from_residual.ensures.1 in
     let within : i < length rows = omega (arith, c.loop-place-test.true, c.deref-row-items.ensures.len) in
-    let there : IsThere w k rows i x = is_there w k rows _ i c.moment.result.0 _ x c.ends_of-ends.ensures c.deref-row-items.ensures.value within c.moment.ensures.kept in
+    let next : NextTold w k rows i x = next_told w k rows _ i c.moment.result.0 _ x c.ends_of-ends.ensures c.deref-row-items.ensures.value within c.moment.ensures.kept in
     let line : Writing {E = Failed} mid new (whereabouts_line w.topology x ∷ []) (Err e) =
     subst (λ (t : TopologyState). Writing {E = Failed} mid new (whereabouts_line t x ∷ []) (Err e)) c.topology.ensures c.in_err-write_packet.ensures in
     record {
-      written = λ d H stands kept is. rw p.1 (front_told w k rows (g.K.Sink.state c.args.out.now) mid new c.loop-place.counts i x within there c.loop-place.invariant e p.0 line d H stands kept is);
+      written = λ d H stands kept is. rw p.1 (front_told w k rows (g.K.Sink.state c.args.out.now) new next c.loop-place.invariant e p.0 line H (record { draws = d; stands = stands; kept = kept; are = is }));
       counted = λ d H stands kept is. rw p.1 tt;
     }
 
@@ -59,6 +59,6 @@ returns g c =
     let new = g.K.Sink.state c.loop-place.out in
     let end : length rows ≤ i = omega (arith, c.loop-place-test.false, c.deref-row-items.ensures.len) in
     record {
-      written = λ d H stands kept is. all_written w k rows old new c.loop-place.counts i end c.loop-place.invariant d H stands kept is;
-      counted = λ d H stands kept is. all_counted w k rows old new c.loop-place.counts i end c.loop-place.invariant d H stands kept is;
+      written = λ d H stands kept is. all_written w k rows old new end c.loop-place.invariant H (record { draws = d; stands = stands; kept = kept; are = is });
+      counted = λ d H stands kept is. all_counted w k rows old new end c.loop-place.invariant H (record { draws = d; stands = stands; kept = kept; are = is });
     }

@@ -1,7 +1,7 @@
-use Rattle.load_keeper.proofs.Words.{List, Touch, [], ap, filter, filter_same, not, rules, sym, touches_peer, ◌++◌, ◌∙◌, ◌∷◌, ◌≡◌}
+use Rattle.load_keeper.proofs.Touches.{apart_pushed}
 use Rattle.load_keeper.proofs.node_loads.NodeLoads.note_touch.Goals as goal
 
-pub returns-clause-touches : goal.returns-clause-touches
-returns-clause-touches c =
-    let kept : c.retain.new.self.items ≡ filter (λ (t : Touch). not (touches_peer c.args.who t)) c.args.self.now.touches.items = filter_same _ _ _ (λ x b f' k. search rules) _ _ c.retain.ensures.filtered in
-    c.in_ok-push.ensures.items ∙ ap (λ (ts : List Touch). ts ++ record { who = c.args.who; at = c.args.now } ∷ []) kept
+pub invariant_of-self : goal.invariant_of-self
+invariant_of-self c = record {
+  apart = apart_pushed c.args.who c.args.now c.args.self.now.touches.items c.drop_touch.new.self.touches.items c.push.new.self.items _ c.args.self.now.apart c.drop_touch.ensures.touches c.push.ensures.items;
+}

@@ -1,0 +1,4 @@
+pub mod Gone
+pub mod LostStays
+pub mod FirstArrival
+pub mod LastSaying

@@ -1,0 +1,19 @@
+mod Words
+mod Lists
+mod Handing
+mod Records
+mod Sends
+mod Given
+mod Clients
+mod Relays
+mod Servers
+mod Natives
+mod EntryPackets
+mod Steps
+mod Throughout
+mod Fates
+mod Said
+mod Outlets
+mod Arriving
+mod Arrived
+pub mod LawProofs
