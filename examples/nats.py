@@ -181,7 +181,7 @@ def options_of(words):
     parser.add_argument('--at-once', metavar='N', type=int, default=AT_ONCE, help=f'situations at once; {AT_ONCE} where it is not said')
     parser.add_argument('--runs', metavar='N', type=int, default=10, help='clients at once behind each kind')
     parser.add_argument('--rules', action='store_true', help='print the rules of each kind')
-    parser.add_argument('--only', metavar='KIND', choices=[kind.name for kind in KINDS], help='this kind alone')
+    parser.add_argument('--only', metavar='KIND', choices=[kind.name for kind in KINDS], help='only this kind')
     parser.add_argument('--client', metavar='COMMAND', help='a client to be tried, and not `qualify`')
     parser.add_argument('--server', metavar='COMMAND', help='a server in the place of `serve`, for --client')
     parser.add_argument('--seconds', metavar='N', type=float, default=SECONDS, help=f'that the client has; {SECONDS} where it is not said')

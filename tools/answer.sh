@@ -160,7 +160,7 @@ try_unproved() {
   trap 'exit 130' INT
   trap 'exit 143' TERM HUP
   case $1 in
-    lab | nested | reach | state | wire)
+    lab | nested | reach | follow | state | wire)
       name=$(trial_name "$2")
       cat -- "$2" >"$scratch/given" || exit "$unreadable"
       words[1]=$name
@@ -192,7 +192,7 @@ answer() {
     *) ask_for_build "the program isn't built from these sources, and nothing unproved may answer here" ;;
   esac
   case $1 in
-    lab | nested | reach | state | show | gen | wire) try_unproved "$@" ;;
+    lab | nested | reach | follow | state | show | gen | wire) try_unproved "$@" ;;
     *) ask_for_build "the program isn't built from these sources, and \`$1\` is answered by the built program alone" ;;
   esac
 }

@@ -1,11 +1,11 @@
 #!/usr/bin/env python3
 """Proves and builds the program, once: each crate below it, as many at a time as there are processors, and then itself.
 
-Less than an hour on four processors where nothing is kept. Says each crate as it is done, how many are left, and the time so
-far; and when all are proved, and the program alone is to be made. Ctrl-C ends it, and what was proved is kept: the next build
-begins there. What `rt` says lies in a file, which is named where a crate fails.
+That takes less than an hour on four processors if nothing is kept. It names each crate as it is done, how many are left, and the
+time so far; and it says when all are proved and only the program is left to make. Ctrl-C ends it, and what was proved is kept: the
+next build begins there. What `rt` says goes to a file, which is named if a crate fails.
 
-Ends with status 0 where the program is built, and with 125 where it isn't.
+It ends with status 0 if the program is built, and with 125 if it isn't.
 """
 import os
 import re

@@ -7,13 +7,14 @@
 FILE is pcap or pcapng, of Ethernet with or without VLAN tags and PPPoE, Linux cooked in both forms, BSD loopback, or raw IP.
 OUT is classic pcap of raw IP. Each packet keeps its number and its moment: one that isn't IP becomes an empty record, so that
 what is said of record I is said of the user's own packet I, counted from 0 (Wireshark counts from 1). What a system does
-before a server has its datagram is done here: fragments are put together, in the record of the last of them, and what stands
-behind UDP's length is cut off. What was converted and what was left out is told on standard error.
+before a server gets its datagram is done here: fragments are put together, in the record of the last of them, and what follows
+UDP's length is cut off. Standard error says what was converted and what was left out.
 
-With --judge the lines and the status are those of the program on the converted capture. Standard error has what goes beyond them: why an answer isn't licensed, and which checksums are wrong. Status 13 says that
-there is no verdict: nothing to or from the server stands there whole, packets of it were cut short, or what isn't licensed
-may answer what isn't whole. A file above 96 MiB goes in pieces; each begins again --overlap seconds before the end of the one
-before it, so that an answer finds its question, and what is said of the packets that a piece repeats is left out.
+With --judge the lines and the status are those of the program on the converted capture. Standard error adds why an answer isn't
+licensed, and which checksums are wrong. Status 13 says that there is no verdict: nothing to or from the server is there whole,
+packets of it were cut short, or what isn't licensed may answer what isn't whole. A file above 96 MiB goes in pieces. Each begins
+--overlap seconds before the end of the one before, so that an answer finds its question; what is said of repeated packets is left
+out.
 """
 import collections
 import os

@@ -39,9 +39,10 @@ def of_drop(told: Told, record: Record, depth: int = 0) -> str:
     return (way(told, told.kept, record, depth) if way and told.kept and depth < DEPTH_MAX else '') or meaning(record)
 
 
-def of_loss(loss: Loss) -> str:
+def of_loss(told: Told, loss: Loss) -> str:
     if loss.word == 'hairpin':
-        return 'sender and peer are behind one NAT, which doesn\'t send back what is for its own address'
+        nat = told.known.turned_back_by(loss.maker.node, loss.target)
+        return f'sender and peer are behind one NAT{f", {nat}" if nat else ""}, which doesn\'t send back what is for its own address'
     if loss.word == 'fault':
         return f'the send failed, as `fault` let it, and {loss.maker.node} doesn\'t know: nothing went out to {loss.target}'
     if loss.word == 'full':
@@ -73,9 +74,7 @@ def port_at(told: Told, kept: Kept, nat: str, entry: Entry, count: int) -> int |
 
 def whose(told: Told, nat: str, inside: str) -> str:
     """Who is at an endpoint inside of a NAT: a client, or another NAT."""
-    clients = (name for name in told.known.of('client') if (told.known.tables[name].get('nat'), told.known.tables[name].get('inside')) == (nat, inside))
-    inner = (name for name, outer in told.known.outer.items() if outer == nat and told.known.tables[name]['external'] == inside.rpartition(':')[0])
-    return next(iter([*clients, *inner, inside]))
+    return told.known.whose(nat, inside)
 
 
 def of_closed_nat(told: Told, kept: Kept, record: Record, depth: int) -> str:
@@ -229,10 +228,19 @@ def of_barred(told: Told, kept: Kept, record: Record, depth: int) -> str:
     name, peer = peer_about(told, kept, record)
     tries = peer.tries_at(record.moment) if peer else ()
     if peer is None or not tries:
-        return ''
+        return barred_of(told, kept, record)
     if record.moment < tries[-1] + TRY_GAP_MS:
         return f'the latest try at {name} went out {ms(record.moment - tries[-1])} before, and {ms(TRY_GAP_MS)} lie between two'
     return f'{count_of(len(tries))} at {name} got no answer, from {ms(tries[0])} on; ' + of_tries(told, kept, record.node, peer, record, depth)
+
+
+def barred_of(told: Told, kept: Kept, record: Record) -> str:
+    """All for whom a node is barred at a record, where nobody says which of them it is about."""
+    count = kept.after(record.index)
+    ends = [(told.name_of(peer.address, count), peer.barred_until(record.moment)) for peer in kept.peers(record.node, count, record.moment)]
+    barred = [f'{name} until {ms(until)}' for name, until in ends if until is not None]
+    more = [f'{len(barred) - NAMED_MAX} more'] if len(barred) > NAMED_MAX else []
+    return f'{record.node} is barred for {" and ".join(barred[:NAMED_MAX] + more)}' if barred else ''
 
 
 def count_of(tries: int) -> str:
@@ -302,7 +310,7 @@ def last_of(told: Told, mark: Mark, until: Record | None = None, depth: int = 0)
     while drawn is not None:
         mark, drawn = drawn, next_of(told, drawn, until)
     if not isinstance(mark, Entry):
-        return of_loss(mark)
+        return of_loss(told, mark)
     record, content = came_of(told, mark, until), told.report.content(mark)
     if record is None:
         return of_undelivered(told, mark)

@@ -1,8 +1,8 @@
 #!/usr/bin/env python3
 """Plays the scenarios of a folder, and compares with what they expect.
 
-For each NAME.toml of FOLDER, or for a FILE: the report is compared with NAME.toml.stdout where that is there, and the
-status with NAME.toml.status. And with each line of the scenario that says so itself:
+For each NAME.toml of FOLDER, or for a FILE, the report is compared with NAME.toml.stdout if that is there, and the status
+with NAME.toml.status. It is also compared with each line of the scenario that begins with `# expect:`:
 
   "deliver 3",
   # expect: b rule3 handed/45        a record of the event before has these words behind its act, in this order
@@ -13,7 +13,7 @@ status with NAME.toml.status. And with each line of the scenario that says so it
 
 Of several lines below one event each is met by a later record than the one before. A scenario with a line
 `# chain: CHAIN` is played by `nested FILE CHAIN`, every other one by `lab FILE`. `--write` writes NAME.toml.stdout
-where there is none. Ends with the line 'N passed, M failed', and with status 1 where one failed or none was played.
+if there is none. The last line is 'N passed, M failed', and the status 1 if one failed or none was played.
 """
 import bisect
 import difflib

@@ -91,7 +91,7 @@ def lost(told: Told, step: Step, steps: list[Step]) -> End:
     if step.word == GOES:
         loss = next((mark for mark in record.marks if mark.text == step.mark), None)
         if isinstance(loss, Loss):
-            return End(LOST, record, f'!{loss.word}', causes.of_loss(loss))
+            return End(LOST, record, f'!{loss.word}', causes.of_loss(told, loss))
         return End(LOST, record, record.fate, 'what carried it went on without it')
     if step.word != ENDS:
         return End(LOST, record, record.fate, f'{record.node} doesn\'t list its sender any more')

@@ -2,11 +2,11 @@
 """Every order in which what follows the last event can be delivered, and what becomes of the packet in each.
 
 The last event of FILE makes entries of the wire, their deliveries make others, and so on. A schedule delivers each of them
-once, in some order; time stands still meanwhile. Entries from before that event stay as they are. Said are how many schedules
-there are, in how many the packet of that event arrives, how many deliveries they have, and each sequence of fates with its
+once, in some order; time stands still meanwhile. Entries from before that event stay as they are. It says how many schedules
+there are, in how many the packet of that event arrives, and how many deliveries they have; and of each sequence of fates its
 count and one schedule, as `deliver` events to paste.
 
-  explore FILE             where the last event is `host a b 00`, say
+  explore FILE             what follows the last event, such as `host a b 00`
   explore FILE --event N   what follows event N; later events are left out
   explore FILE --lose 1    also each schedule in which one entry, or none, is never delivered, and whose loss kills the packet
   explore FILE --repeat 1  also each in which one is delivered once more

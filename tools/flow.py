@@ -4,15 +4,15 @@
 FILE is a report of `lab` or `nested`, or a scenario, which is played first; `-` is standard input. A column is a node; an arrow is an
 entry of the wire, from who made it to where it ended, at the moment of its delivery. Lost ones are cut off.
 
-Columns stand as the nodes do: clients, their NATs, servers, and at the other end relays and hosts, or where there are none
+The columns are in the order of the nodes: clients, their NATs, servers, and at the other end relays and hosts, or if there are none
 the other half of the clients.
 
   flow FILE                         the ladder as text, the records beside it; at a terminal it has its columns
   flow FILE --wide                  the same, however wide the terminal is
   flow FILE --narrow                the same in 80 columns
   flow FILE --ends                  with the ports at the arrows' ends; Q: is before that of a server's second address
-  flow FILE --svg >PICTURE.svg      a picture, in black and white
-  flow FILE --from 20 --to 25       records 20 to 25 alone
+  flow FILE --svg >PICTURE.svg      a picture, in black and white; a bar shows how long a NAT lets somebody in
+  flow FILE --from 20 --to 25       only records 20 to 25
   flow FILE --nodes a,n1,s1,n2,b    these columns first, in this order
 """
 import os
@@ -26,6 +26,7 @@ import ladder_text
 from ladder import Ladder
 from told import Told
 from trace import load
+from windows import windows_of
 
 
 def options_of(words):
@@ -43,8 +44,8 @@ def options_of(words):
 
 def ladder_of(told: Told, options):
     """The ladder of a scenario, or of a report alone."""
-    told.kept  # by which entries are named that let go what waited
-    return Ladder(told.report, options.first, options.last, [name for name in options.nodes.split(',') if name], told.known)
+    windows = windows_of(told.kept, told.known)  # by whose lines entries are named that let go what waited
+    return Ladder(told.report, options.first, options.last, [name for name in options.nodes.split(',') if name], told.known, windows)
 
 
 def lines_of(options):

@@ -1,5 +1,5 @@
 #!/usr/bin/env python3
-"""Where each packet went, and which records that was decided at.
+"""Where each packet went, and at which records that was decided.
 
 FILE is a scenario; `-` is standard input. A row is a record that a packet came to: `goes` with the entry that carries it on, `waits`,
 `held`, `arrives` or `ends`; `back` is the answer that a native host makes to an echo request. Packets are numbered as hosts hand them in.
@@ -9,7 +9,7 @@ FILE is a scenario; `-` is standard input. A row is a record that a packet came 
   follow FILE --lines      the lines of the program's own `follow FILE CHAIN`
   follow FILE --json       an object a line: steps, packets, totals; docs/follow.schema.json has the keys
 
-It is read from the lines of the program's own `follow FILE CHAIN`; where nothing is built the examples alone have it.
+It is read from the lines of the program's own `follow FILE CHAIN`; if nothing is built, only the examples have it.
 """
 import argparse
 import json
@@ -33,7 +33,7 @@ def options_of(words: list[str]) -> argparse.Namespace:
     parser = command.with_chain(command.with_program(command.words(__doc__)))
     parser.add_argument('file', metavar='FILE', help='a scenario')
     look = parser.add_mutually_exclusive_group()
-    look.add_argument('--packet', metavar='K', type=command.number, help='this packet alone')
+    look.add_argument('--packet', metavar='K', type=command.number, help='only this packet')
     look.add_argument('--lines', action='store_true', help='the lines as the program has them')
     parser.add_argument('--json', action='store_true', help='an object a line')
     return parser.parse_args(words)
@@ -100,7 +100,7 @@ def main() -> int:
     told = told_of(options)
     followed = told.followed
     if followed is None:
-        raise command.Refusal('this program says of no packet where it went: it answers neither `follow` nor `state`')
+        raise command.Refusal(told.untold or '')
     if options.json:
         lines = [json.dumps(line) for line in json_of(followed, options.packet)]
     elif options.lines:

@@ -2,7 +2,7 @@
 """A report as JSON: a line for each record, its marks as objects, and last a line of the totals.
 
 FILE is a report of `lab` or `nested`, or a scenario, which is played first; `-` is standard input. What a record doesn't
-have stands in no key. docs/report.schema.json has the keys of a line. These stay, with what they mean; more fates, acts and words of
+have has no key. docs/report.schema.json has the keys of a line. These stay, with what they mean; more fates, acts and words of
 `lost` may come, and a new key comes with a new schema.
 
   json FILE | jq -r 'select(.drop) | "\\(.ms) \\(.node) \\(.fate)"'    when, where and by which rule something was dropped

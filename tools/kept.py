@@ -15,9 +15,9 @@ from typing import Union
 
 from command import Refusal
 
-# The three numbers that a reader of these lines needs: how long a peer is listed after it was touched, and a try counts, how long it is
-# fresh after it was heard, and what lies between two tries of it, all in milliseconds (RFC 4380, sections 5.2, 5.2.4, 5.2.6).
-LISTED_MS, FRESH_MS, TRY_GAP_MS = 300_000, 30_000, 2_000
+# What a reader of these lines needs: how long a peer is listed after it was touched, and a try counts, how long it is fresh after it was
+# heard, and what lies between two tries of it, all in milliseconds (RFC 4380, sections 5.2, 5.2.4, 5.2.6); and how many tries bar another.
+LISTED_MS, FRESH_MS, TRY_GAP_MS, TRIES_MAX = 300_000, 30_000, 2_000, 4
 BEFORE = -1  # the record before any
 TOTAL = re.compile(r'total records (\d{1,15})|wire full', re.A)
 
@@ -78,6 +78,13 @@ class Peer:
     def tries_at(self, now: int) -> tuple[int, ...]:
         """The tries that count at a moment."""
         return tuple(moment for moment in self.tries if now < moment + LISTED_MS)
+
+    def barred_until(self, now: int) -> int | None:
+        """When the peer may be tried again, where it is barred at a moment: after the gap behind its latest try, and where that makes as many
+        as may be, when the first of these no longer counts."""
+        tries = self.tries_at(now)
+        ends = [moment + TRY_GAP_MS for moment in tries[-1:]] + [moment + LISTED_MS for moment in tries[-TRIES_MAX:1 - TRIES_MAX]]
+        return max(ends) if self.is_listed(now) and ends and now < max(ends) else None
 
 
 What = Union[Void, Port, Lets, Client, Relay, Peer]

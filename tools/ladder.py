@@ -1,6 +1,8 @@
-"""What a picture of a report shows: a column a node, and a row for each record and each entry that was lost."""
+"""What a picture of a report shows: a column a node, a row for each record and each entry that was lost, and a bar so long a NAT lets
+somebody in."""
 from __future__ import annotations
 
+import bisect
 from collections.abc import Iterable, Iterator
 from dataclasses import dataclass
 
@@ -9,6 +11,7 @@ import fates
 import topology
 from report import NO_ENTRY, Entry, Loss, Mark, Record, Report
 from topology import Topology
+from windows import Window
 
 STRANGER = 'stranger'
 LEFT_OUT = ('advance', 'next', 'settle', 'fault')  # records without a node of their own
@@ -40,10 +43,22 @@ class Row:
     entry: int | None = None  # the number of what travels, where it has one
 
 
-class Ladder:
-    """The rows of a report from a record on up to another, and the nodes that stand in them, in the order of a topology."""
+@dataclass
+class Bar:
+    """A window in rows: from the first one at which it is open up to the first one at which it no longer is. One that was opened before
+    all rows has the first one all the same."""
+    window: Window
+    first: int
+    end: int
+    is_older: bool
 
-    def __init__(self, report: Report, first: int = 0, last: int | None = None, nodes: Iterable[str] = (), known: Topology | None = None) -> None:
+
+class Ladder:
+    """The rows of a report from a record on up to another, and the nodes that stand in them, in the order of a topology; and the windows
+    of NATs that are open there."""
+
+    def __init__(self, report: Report, first: int = 0, last: int | None = None, nodes: Iterable[str] = (), known: Topology | None = None,
+                 windows: Iterable[Window] = ()) -> None:
         self.report = report
         self.known = known or topology.guessed(report)
         self.at = report.nodes_at()
@@ -53,6 +68,17 @@ class Ladder:
                                   f'the last one is {len(report.records) - 1}', command.WRONG_WORDS)
         self.rows = [row for record in records for row in self.rows_of(record)]
         self.nodes = self.columns(list(nodes))
+        self.bars = self.bars_of(windows)
+
+    def bars_of(self, windows: Iterable[Window]) -> list[Bar]:
+        """The windows that are open at a row, of NATs that are columns."""
+        numbers, moments, found = [row.record for row in self.rows], [row.moment for row in self.rows], list[Bar]()
+        for window in windows:
+            end = bisect.bisect_left(moments, window.until) if window.void is None else bisect.bisect_left(numbers, window.void)
+            bar = Bar(window, bisect.bisect_left(numbers, window.since), end, bool(numbers) and window.since < numbers[0])
+            if bar.first < bar.end and window.nat in self.nodes:
+                found.append(bar)
+        return found
 
     def columns(self, nodes: list[str]) -> list[str]:
         seen: dict[str, None] = dict.fromkeys(name for row in self.rows for name in (row.source, row.target, *(() if nodes else row.passes)) if name)

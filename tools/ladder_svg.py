@@ -1,9 +1,11 @@
 """A ladder as a picture in SVG: black on white, a file of its own with nothing from elsewhere and no script.
 
-An arrow has a ring where it passes a NAT; a port stands at the NAT that has it.
+An arrow has a ring where it passes a NAT; a port stands at the NAT that has it. So long as a NAT lets somebody in, a bar stands in its
+column, a bar for each whom a port lets in, and its title says whom.
 """
+import windows
 from command import xml
-from ladder import Ladder, Row
+from ladder import Bar, Ladder, Row
 
 STEP, ROW, TOP = 190, 34, 60  # pixels between columns, between rows, and above the first row
 CLOSE, WIDE = 106, 860  # between columns at the least, where the picture would be wider than that
@@ -17,6 +19,10 @@ HEAD = 8  # length of an arrowhead
 RING = 4  # where an arrow passes a NAT
 SHORT = 40  # by so much an arrow that comes nowhere ends before the next column
 BELOW = 14  # from an arrow to what stands below it
+LANE, WIDE_LANE = 5, 9  # the width of a bar, and of one that stands for anyone
+LANES = 5  # bars side by side in a column, at most: the last place has all that are more
+NAMED = 6  # windows of a bar that are named
+NEWLINE = '&#10;'
 
 
 class Picture:
@@ -63,6 +69,36 @@ class Picture:
             self.right = max(self.right, x + width / 2)
             self.parts.append(f'<rect x="{x - width / 2:.0f}" y="{TOP - 40}" width="{width:.0f}" height="24" fill="#fff" stroke="#000"/>')
             self.text(x, TOP - 24, name, 'middle', 'bold')
+
+    def bars(self) -> None:
+        """The windows of each NAT side by side, each at the first place that is free."""
+        places = dict[str, list[list[list[Bar]]]]()
+        for bar in sorted(self.ladder.bars, key=lambda one: one.first):
+            known = places.setdefault(bar.window.nat, [])
+            free = next((place for place in known if place[-1][-1].end <= bar.first), None)
+            if free is not None:
+                free.append([bar])
+            elif len(known) < LANES:
+                known.append([[bar]])
+            else:  # beside those that are there already
+                known[-1][-1].append(bar)
+                known[-1][-1].sort(key=lambda one: one.end)
+        for nat, lanes in places.items():
+            for number, lane in enumerate(lanes):
+                for together in lane:
+                    self.bar(self.at(nat), number, together)
+
+    def bar(self, x: float, place: int, together: list[Bar]) -> None:
+        """A bar, at the column's line or at a place to the right or to the left of it."""
+        first, last = min(together, key=lambda one: one.first), together[-1]
+        top = TOP - 14 if first.is_older else row_at(first.first)
+        low = self.height - 10 if last.end == len(self.ladder.rows) else row_at(last.end) - (0 if last.window.void is not None else ROW // 2)
+        wide = WIDE_LANE if not first.window.whom else LANE
+        left = x - wide / 2 + (place + 1) // 2 * (wide if place % 2 else -wide)
+        said = [windows.said_of(one.window, self.ladder.known) for one in together]
+        said[NAMED:] = [f'and {len(said) - NAMED} more'] if len(said) > NAMED else []
+        self.parts.append(f'<rect class="lets" x="{left:.1f}" y="{top}" width="{wide}" height="{low - top}" fill="#d9d9d9" stroke="#767676">'
+                          f'<title>{NEWLINE.join(map(xml, said))}</title></rect>')
 
     def row(self, row: Row, y: int) -> None:
         x = self.at(row.source)
@@ -125,6 +161,7 @@ class Picture:
 
     def whole(self) -> list[str]:
         self.columns()
+        self.bars()
         moment = None
         for number, row in enumerate(self.ladder.rows):
             y = row_at(number)

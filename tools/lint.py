@@ -1,10 +1,9 @@
 #!/usr/bin/env python3
-"""Where a refused scenario is wrong: the line of the file, what is wanted there, and the nearest known word.
+"""Where a refused scenario is wrong: the line of the file, what may be there, and the nearest known word.
 
-Each FILE is played; where `lab` refuses it, this says the line and the column of each fault that can be told apart, `lab`'s own
-first, with the line itself, a caret below it and what is wanted there. So it does of the first fault where `nested` has no chain
-of NATs to play, or a node or an event that it leaves out. Ends with status 0 where all are played, and with 1 where one is
-refused.
+Each FILE is played. If `lab` refuses it, this says the line and the column of each fault that can be told apart, that of `lab`
+first, with the line itself, a caret below it and what may be there. It does the same for the first fault if `nested` refuses the
+chain of NATs, a node or an event. It ends with status 0 if all are played, and with 1 if one is refused.
 
   lint FILE..
   lint FILE --chain=CHAIN

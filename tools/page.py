@@ -1,9 +1,9 @@
 #!/usr/bin/env python3
 """A scenario as one page of HTML that needs nothing else: to be opened in a browser, kept, and sent to others.
 
-FILE is a scenario. The page has its text, the report, the picture, what each record means and what every node then knows, and
-where the program has the word `reach` who reaches whom. It asks nobody for anything. Of a scenario that isn't played it shows the
-faults, which standard error has too, with status 1.
+FILE is a scenario. The page has its text, the report, the picture, what each record means and what every node then knows, and,
+with the built program, who reaches whom. It asks nobody for anything. If the scenario is refused, the page shows the faults,
+which standard error has too, and the status is 1.
 
   page FILE >NAME.html
   page FILE --out NAME.html
@@ -27,7 +27,7 @@ import view
 
 FOLDER = os.path.join(command.TOP, 'tools', 'web')
 SCRIPTS = ('page.js', 'links.js', 'ladder.js', 'parts.js', 'nodes.js', 'choices.js')  # which make one script, in this order
-PEERS = {'fresh': kept.FRESH_MS, 'listed': kept.LISTED_MS, 'gap': kept.TRY_GAP_MS}
+PEERS = {'fresh': kept.FRESH_MS, 'listed': kept.LISTED_MS, 'gap': kept.TRY_GAP_MS, 'tries': kept.TRIES_MAX}
 CAPTURE_MAX = 1 << 20  # bytes of a capture that are put into a page
 PARTS_MAX = 256  # different datagrams whose parts are put into a page
 PROBES_MAX = 24  # pairs whose next packet is played for a page

@@ -4,9 +4,9 @@
 For each pair of NAT kinds, and for a host of the IPv6 Internet behind a relay, a scenario is made in which both sides
 qualify. The table has what `reach` says then: within how many deliveries the first packet is there, or the word why it
 never is. Then the one sends the other two packets, and every datagram is delivered at once and in order: that takes just
-as many, or what differs is printed, with status 1. `--no-cone` does all that of clients that leave out the cone phase (RFC 5991,
-section 3.2), as those that are in use do: no address has the cone bit then. `--check` prints nothing else where both tables are
-those of `tests/stored/pairs.txt`, of which docs/GUIDE.md shows the first. `--scenario FROM TO` prints a pair's scenario instead: each
+as many, or what differs is printed, with status 1. `--no-cone` does all that with clients that leave out the cone phase (RFC 5991,
+section 3.2), as those in use do: no address has the cone bit then. `--check` prints only what differs from the tables of
+`tests/stored/pairs.txt`, of which docs/GUIDE.md shows the first. `--scenario FROM TO` prints a pair's scenario instead: each
 is a kind, `native`, or NATs behind NATs from the inner one outward, as `port:cone`; then it says its chain. The scenarios are written
 with `tools/scenario.py`, with which any others can be.
 """

@@ -16,7 +16,8 @@ import matrix
 
 SECONDS_MAX = 10  # that a play may take, and as long may one wait for its turn
 STDIN = '/dev/stdin'  # the name of the file that a text comes by
-UNPROVED = 'the sources were played as they stand, before the program was built: nothing in this page is proved'
+UNPROVED = 'the sources were played as they stand, before the program was built: nothing in this page is proved, and where packets went and what ' \
+    'nodes keep is not told; ./teredo build builds it, once'
 NOT_PLAYED = 'the program is not built, so the examples alone are shown, as they stand; ./teredo build builds it, once'
 
 

@@ -5,7 +5,7 @@ FILE is a scenario; `-` is standard input. Moments are in milliseconds; what has
 
   state FILE                what is kept in the end
   state FILE --at N         what is kept after record N, at its moment
-  state FILE --node n1,a    of these nodes alone
+  state FILE --node n1,a    only of these nodes
   state FILE --json         an object a line; docs/state.schema.json has the keys
 
 It is read from the lines of the program's own `state FILE CHAIN each`.
@@ -31,7 +31,7 @@ def options_of(words: list[str]) -> argparse.Namespace:
     parser = command.with_chain(command.with_program(command.words(__doc__)))
     parser.add_argument('file', metavar='FILE', help='a scenario')
     parser.add_argument('--at', metavar='N', type=command.number, help='after this record; else in the end')
-    parser.add_argument('--node', metavar='NAMES', default='', help='of these nodes alone, with commas between them')
+    parser.add_argument('--node', metavar='NAMES', default='', help='only of these nodes, with commas between them')
     parser.add_argument('--json', action='store_true', help='an object a line')
     return parser.parse_args(words)
 
@@ -126,7 +126,7 @@ def main() -> int:
     assert told.events is not None  # where it is no scenario, that is said first
     told.must_play()
     if told.kept is None:
-        raise command.Refusal('this program does not say what the nodes keep: it has no `state`')
+        raise command.Refusal(told.untold or '')
     last = len(told.report.records) - 1
     if options.at is not None and options.at > last:
         raise command.Refusal(f'there is no record {options.at}; the last one is {last}', command.WRONG_WORDS)

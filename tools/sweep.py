@@ -1,15 +1,15 @@
 #!/usr/bin/env python3
-"""Plays a scenario over all values of some of its keys, and over seeds, and writes a line of CSV each.
+"""Plays a scenario over all values of some of its keys, and over seeds, and writes a line of CSV for each play.
 
-A KEY is NODE.KEY, as `n1.kind`, or a word that stands in braces in the text, as `"advance {wait}"`. Values have commas between
+A KEY is NODE.KEY, as `n1.kind`, or a word in braces in the text, as `"advance {wait}"`. Values have commas between
 them; N..M is every number from N to M, N..M..S every S-th; a pair is LOW:HIGH. Lines of the text between `# for i in 1..{count}` and
-`# end` stand there for each number, with it in place of `{i}`. `generated:COUNT` in place of TEMPLATE is the scenario of `generated`.
+`# end` are there once for each number, which replaces `{i}`. `generated:COUNT` in place of TEMPLATE is the scenario of `generated`.
 
 With `--lose` and `--delay` each `settle`, and each row of `next`, delivers what is on the wire by chance, drawn from the seed.
 
 Each line has the values, the status, the totals, each client's end (its latest fate of its qualification), each packet's fate, and
 of a scenario that was refused what was said. Where scenarios differ in their events, it has how many packets came to which end. Above
-the head stands a line with the version, the program, the template and the words. Lines come in order, whatever is played by how many
+the head is a line with the version, the program, the template and the words. Lines come in order, whatever is played by how many
 processes.
 
   sweep TEMPLATE --set n1.kind=cone,port --set n1.idle=1000..60000..1000 >RESULTS.csv
@@ -128,7 +128,7 @@ def options_of(words):
     parser.add_argument('--seeds', metavar='N..M', help='every seed from N to M')
     parser.add_argument('--lose', metavar='P', type=chance.probability, default=0.0, help='an entry of the wire is lost with this probability, 0 to 1')
     parser.add_argument('--delay', metavar='A..B', type=chance.spread, default=(0, 0), help='an entry takes so many milliseconds')
-    parser.add_argument('--shard', metavar='I/N', type=shard_of, default=(1, 1), help='the I-th of N parts alone')
+    parser.add_argument('--shard', metavar='I/N', type=shard_of, default=(1, 1), help='only the I-th of N parts')
     parser.add_argument('--plot', metavar='X,Y', help='a picture of column Y over column X, in SVG, and no CSV')
     parser.add_argument('--out', metavar='NAME', help='write there, and not on standard output')
     parser.add_argument('--resume', action='store_true', help='with --out: keep the lines that are there, and go on behind them')

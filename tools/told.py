@@ -15,10 +15,11 @@ import toml_places
 import topology
 from followed import Followed, followed_of
 from kept import Client, Kept, Peer, Void
-from player import STDIN, Trial
+from player import STDIN, Stored, Trial
 from report import HANDED_IN, Entry, Record, Report
 from topology import Topology
 
+UNBUILT = 'the program is not built, so of the examples alone it is told where packets went and what nodes keep: ./teredo build builds it, once'
 PLAYED = (0, 8)  # statuses of a scenario that was played: to its end, or until the wire was full
 
 
@@ -94,6 +95,16 @@ class Told:
     @functools.cached_property
     def report(self) -> Report:
         return Report(self.played[1])
+
+    @property
+    def untold(self) -> str | None:
+        """Why it isn't told where packets went, or what nodes keep, and what to do; None where it is."""
+        if self.text is None:
+            return 'a report alone does not say where packets went: trace its scenario'
+        missing = [word for word, told in (('follow', self.followed), ('state', self.kept)) if told is None]
+        if missing and isinstance(self.teller, Stored):
+            return UNBUILT
+        return f'this program does not say where packets went, or what nodes keep: it doesn\'t answer `{"` or `".join(missing)}`' if missing else None
 
     @functools.cached_property
     def kept(self) -> Kept | None:

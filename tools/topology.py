@@ -51,6 +51,12 @@ class Topology:
                 return name
         return None
 
+    def whose(self, nat: str, inside: str) -> str:
+        """Who is at an endpoint inside of a NAT: a client, another NAT, or where nobody is known the endpoint."""
+        clients = (name for name in self.of('client') if (self.tables[name].get('nat'), self.tables[name].get('inside')) == (nat, inside))
+        inner = (name for name, outer in self.outer.items() if outer == nat and self.tables[name]['external'] == inside.rpartition(':')[0])
+        return next(iter([*clients, *inner, inside]))
+
     def is_secondary(self, endpoint: str) -> bool:
         """Whether this is the second address of a server."""
         address = endpoint.rpartition(':')[0]

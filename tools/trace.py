@@ -1,17 +1,17 @@
 #!/usr/bin/env python3
 """Why didn't this packet arrive? What came of each event of a report, as a tree of causes.
 
-FILE is a scenario, which is played, or a report of `lab` or `nested`; `-` is standard input. Each entry of the wire stands below the
-record that made it, with where it ended and by which rule; `never delivered` is one that was lost. Where packets went is what `follow`
-says, and why one didn't come what `state` says that the nodes keep at that record. A report alone says neither: then there is what
-its lines say.
+FILE is a scenario, which is played, or a report of `lab` or `nested`; `-` is standard input. Each entry of the wire is below the
+record that made it, with where it ended and by which rule; `never delivered` is one that was lost. `follow` says where packets went,
+and `state` what the nodes keep at the record at which one didn't come. A report by itself says neither: then there is only what its
+lines say.
 
   trace FILE             the whole tree
-  trace FILE --event N   what came of event N alone, and what its last fate means
+  trace FILE --event N   what came of event N, and what its last fate means
   trace FILE --packets   each packet that a host handed in, in one line: arrived, waits, is held, lies on the wire, or lost, where and why
 
-A line of a packet that didn't come ends with the word that `reach` has of its two hosts before the event, where the program is built,
-the scenario has few events and that says why: docs/REACH.md has the words.
+The line of a packet that didn't come ends with the word of `reach` for its two hosts before the event, if the program is built, the
+scenario has few events and the word says why: docs/REACH.md has the words.
 """
 import argparse
 import sys
@@ -28,8 +28,6 @@ from matrix import Before
 from report import HANDED_IN, Entry, Record, is_report
 from told import Told, alone, teller_of
 
-UNTOLD = 'a report alone does not say where packets went: trace its scenario'
-UNKNOWN = 'this program does not say where packets went: it answers neither `follow` nor `state`'
 HEX_MAX = 16  # characters of an event's bytes that are shown
 
 
@@ -151,13 +149,13 @@ def packet_lines(told: Told, before: Before | None) -> list[str]:
     if not told.handed_in:
         return ['no host handed in a packet']
     lines = [packet_line(told, record, before) for record in told.handed_in]
-    return lines + ([UNTOLD if told.text is None else UNKNOWN] if told.followed is None else [])
+    return lines + ([told.untold] if told.followed is None and told.untold else [])
 
 
 def options_of(words: list[str]) -> argparse.Namespace:
     parser = command.over_report(__doc__)
     what = parser.add_mutually_exclusive_group()
-    what.add_argument('--event', metavar='N', type=int, help='this event alone')
+    what.add_argument('--event', metavar='N', type=int, help='only this event')
     what.add_argument('--packets', action='store_true', help='a line for each packet that a host handed in')
     return parser.parse_args(words)
 

@@ -14,6 +14,7 @@ import matrix
 import rulebook
 import toml_places
 import trace
+import windows
 from followed import LOST
 from kept import Client, Lets, Peer, Port, Void
 from ladder import Ladder
@@ -67,7 +68,7 @@ class View:
 
     def __init__(self, told, name, first=0, event=None):
         self.told, self.text, self.name, self.report, self.known = told, told.text, name, told.report, told.known
-        told.kept  # by which entries are named that let go what waited
+        opened = windows.windows_of(told.kept, told.known)  # by whose lines entries are named that let go what waited
         self.places = toml_places.read(told.text).value['events'].value
         self.first = max(0, min(self.window_of(event) if event is not None else first, len(self.report.records) - 1))
         self.records = self.report.records[self.first:self.first + RECORDS_MAX]
@@ -78,7 +79,7 @@ class View:
             end = self.shown[record.index]
             if end.reason:
                 self.ends.setdefault(end.record.index, {}).setdefault(end.reason, []).append(record.event)
-        self.ladder = Ladder(self.report, self.first, self.first + RECORDS_MAX - 1, (), self.known)
+        self.ladder = Ladder(self.report, self.first, self.first + RECORDS_MAX - 1, (), self.known, opened)
 
     def whole(self):
         return {
@@ -89,7 +90,7 @@ class View:
             'pictures': [self.picture(False), self.picture(True)], 'rows': [row.record for row in self.ladder.rows],
             'carried': [row.entry for row in self.ladder.rows],
             'steps': self.steps(), 'columns': self.columns(), 'row': [ladder_svg.row_at(0), ladder_svg.ROW],
-            **self.kept(), 'packets': self.packets(), 'packets_in_all': len(self.told.handed_in)}
+            **self.kept(), 'untold': self.told.untold, 'packets': self.packets(), 'packets_in_all': len(self.told.handed_in)}
 
     def kept(self):
         """What each node keeps where the records begin, and what `state` says of each of these; whose addresses and endpoints inside are."""
@@ -111,8 +112,19 @@ class View:
         return index - index % RECORDS_MAX
 
     def steps(self):
-        """The rows of the picture in words."""
-        return [[row.record, row.moment, row.source, row.target or '', row.label, row.fate] for row in self.ladder.rows]
+        """The rows of the picture in words, each with the windows of NATs that it opens or finds shut."""
+        turns = self.turns()
+        return [[row.record, row.moment, row.source, row.target or '', row.label, row.fate, turns.get(at, [])] for at, row in enumerate(self.ladder.rows)]
+
+    def turns(self):
+        """From a row to the windows that are open from it on, or shut from it on."""
+        found = {}
+        for bar in self.ladder.bars:
+            window, whom, whose = bar.window, windows.whom_of(bar.window, self.known), self.known.whose(bar.window.nat, bar.window.inside)
+            found.setdefault(bar.first, []).append(f'{window.nat} {"is open" if bar.is_older else "opens"} for {whose}: lets in {whom}, '
+                                                   f'until {windows.shut_of(window, self.known)}')
+            found.setdefault(bar.end, []).append(f'{window.nat} has shut for {whose}: doesn\'t let in {whom} any more')
+        return found
 
     def picture(self, has_ends):
         return '\n'.join(ladder_svg.svg_of(self.ladder, f'{self.name}: who sent what to whom', has_ends)) + '\n'
@@ -139,14 +151,12 @@ class View:
         if entry is not None:
             said['way'] = self.way(entry, record)
         why = self.reasons(record)
-        if record.fate == 'barred' and self.told.kept is not None:
-            said['barred'] = causes.peer_about(self.told, self.told.kept, record)[0]
         return said | ({'why': why} if why else {})
 
     def reasons(self, record):
         """Why what a record is about came no further: what was dropped, what wasn't sent, and each packet of a host that ends here."""
         found = [causes.of_drop(self.told, record)] if fates.is_drop(record.fate) and not record.gone else []
-        found += [f'!{loss.word}: {causes.of_loss(loss)}' for loss in record.losses]
+        found += [f'!{loss.word}: {causes.of_loss(self.told, loss)}' for loss in record.losses]
         ended = [(reason, events) for reason, events in self.ends.get(record.index, {}).items() if reason not in ' '.join(found)]
         return found + [f'the packet{"s" * (len(events) > 1)} of event{"s" * (len(events) > 1)} {", ".join(map(str, events))}: {reason}' for reason, events in ended]
 
@@ -162,8 +172,14 @@ class View:
         return {number: bisect.bisect_left(breaks, self.places[number].start) + 1 for number in numbers if number < len(self.places)}
 
     def packets(self):
-        return [{'record': record.index, 'said': trace.packet_line(self.told, record, end=self.shown[record.index]), 'state': self.shown[record.index].state,
+        return [{'record': record.index, 'said': self.packet(record), 'state': self.shown[record.index].state,
                  'end': self.shown[record.index].record.index} for record in self.handed_in]
+
+    def packet(self, record):
+        """A packet that a host handed in, and what became of it."""
+        target = self.told.target(record)
+        whom = f' to {target}' if target else ''
+        return f'{record.node}{whom}, {record.moment:,} ms, event {record.event}: {self.shown[record.index]}'
 
     def opening(self):
         """The record that matters first: where the first packet ended that was lost, else where the first one was handed in, else the first

@@ -1,12 +1,12 @@
 #!/usr/bin/env python3
-"""The laboratory in a browser: change a scenario, see the packets go, on this machine alone.
+"""The laboratory in a browser, only on this machine: change a scenario, see the packets go.
 
-It listens on 127.0.0.1 at a free port, and prints the address to open, which has a secret word in it: who doesn't know it gets
+It listens on 127.0.0.1 at a free port, and prints the address to open, which has a secret word in it: whoever doesn't know it gets
 nothing. Nothing is written to a file, and nothing asks another machine. Ctrl-C ends it.
 
-  web                opens a browser, where there is a desktop
+  web                opens a browser, if there is a desktop
   web FILE           begins with this scenario
-  web --no-browser   prints the address alone
+  web --no-browser   only prints the address
   web --port N       at this port, as for one that is passed on by `ssh -L N:127.0.0.1:N`
 """
 import contextlib

@@ -10,7 +10,13 @@ import regions
 
 # A page that is made as a whole, or tells of tests, isn't counted.
 LEFT_OUT = ('docs/CLAIMS.md', 'docs/DEFINITIONS.md', 'tests/README.md')
-WORDS_MAX, SENTENCE_MAX, LONG_MAX = 41_000, 35, 20
+WORDS_MAX, SENTENCE_MAX, LONG_MAX = 40_000, 35, 10
+# How many words by hand a page should have at most, or several together: more is a remark.
+BUDGETS = {('README.md',): 900, ('docs/README.md',): 150, ('docs/START.md',): 1_500, ('docs/REACH.md',): 1_800, ('docs/GUIDE.md',): 4_000,
+           ('docs/SCENARIOS.md',): 3_000, ('docs/TESTING.md', 'docs/CAPTURES.md'): 2_200, ('docs/TOOLS.md',): 1_000,
+           ('docs/SERVE.md', 'SECURITY.md'): 3_800, ('docs/RULES.md',): 6_500, ('docs/SURE.md',): 3_500, ('docs/DECISIONS.md',): 2_800,
+           ('ARCHITECTURE.md',): 3_500,
+           ('CONTRIBUTING.md', 'docs/PERFORMANCE.md', 'docs/TRIED.md', 'CHANGELOG.md', 'docs/GLOSSARY.md'): 5_000}
 CONSOLE = re.compile(r'^```console\n.*?^```', re.M | re.S)
 BLOCK = re.compile(r'^```.*?^```', re.M | re.S)
 FENCE = re.compile(r'^```\w*$', re.M)
@@ -40,6 +46,12 @@ def counted(pages, read):
     texts = {page: read(page) for page in pages if page not in LEFT_OUT}
     return sum(words(by_hand(text)) for text in texts.values()), [
         (page, sentence) for page, text in texts.items() for sentence in sentences(text) if words(sentence) > SENTENCE_MAX]
+
+
+def remarks(read):
+    """Which pages are above their budget."""
+    found = ((pages, sum(words(by_hand(read(page))) for page in pages), most) for pages, most in BUDGETS.items())
+    return [f'{", ".join(pages)}: {count:,} words by hand, and {most:,} are wanted' for pages, count, most in found if count > most]
 
 
 def faults(count, long):

@@ -5,7 +5,7 @@ SOURCE is
 - the crates, each with the first sentence of its root file;
 - docs/parts/fates.txt, whose rows have the cells of the table of fates with ` | ` between them, with `#S` those of a server;
 - the schema of scenarios, whose keys it is, with `#events` its events;
-- docs/COMMANDS.md itself, whose sections have the statuses;
+- docs/COMMANDS.md itself, whose sections have the statuses, with `#manual` the names of the manual pages, with `#contents` their own;
 - docs/parts/reach.txt with `#TABLE`, whose words the lines of that table of `reach` have;
 - a file of tests/stored/, of which stored_tables.py makes a table;
 - a scenario of an example, as it stands;
@@ -31,6 +31,9 @@ CRATES, FATES, SCHEMA, COMMANDS = 'crates.txt', 'docs/parts/fates.txt', 'docs/sc
 # A folder of examples, and what the head of its table calls one.
 EXAMPLES = {'examples/scenarios': 'scenario', 'examples/chains': 'chain'}
 STANDARD, LOOK = 'RFC 4380', 'Look at'
+MANUAL, CONTENTS, SERVER = 'manual', 'contents', 'serve'
+# What a link leaves out of the heading that it leads to.
+NO_ANCHOR = re.compile(r'[^\w -]')
 ROW = re.compile(r'^\| (?:\*\*)?`(\w+)`(?:\*\*)? \|', re.M)
 
 
@@ -89,6 +92,23 @@ def fates_of(text, node, old):
     return '\n'.join(['| fate | means | likely cause |', '|---|---|---|', *rows]) + '\n'
 
 
+def contents(page):
+    """A page's sections, each a link."""
+    links = ((head, NO_ANCHOR.sub('', head.lower()).replace(' ', '-')) for head in re.findall(r'^## (.*)$', page, re.M))
+    return ', '.join(f'[{head}](#{anchor})' for head, anchor in links) + '\n'
+
+
+def with_contents(page):
+    """A page that is made as a whole, with its contents above its first section."""
+    return page.replace('\n## ', f'\n{contents(page)}\n## ', 1)
+
+
+def manual(page):
+    """The line that names each manual page: a command's section makes one, and that of `serve` is for operators."""
+    names = [name for name in sorted(re.findall(r'^## (\w+)$', page, re.M)) if name != SERVER]
+    return f'Manual pages: teredo(1), teredo-serve(8), teredo-scenario(5), and in section 1 teredo-COMMAND for {", ".join(f"`{name}`" for name in names[:-1])} and `{names[-1]}`.\n'
+
+
 def example(text):
     """The cells of an example from its first comment: what it shows, the sections of the standard, and where to look."""
     said, marked = [], {}
@@ -125,7 +145,7 @@ def made(top, source, old=''):
     if path == SCHEMA:
         return keys.made(read(top, path), part)
     if path == COMMANDS:
-        return statuses.made(read(top, path))
+        return {MANUAL: manual, CONTENTS: contents}.get(part, statuses.made)(read(top, path))
     if path == reach_tables.SAID:
         return reach_tables.made(top, part)
     if path.startswith(stored_tables.FOLDER) and os.path.exists(os.path.join(top, path)):

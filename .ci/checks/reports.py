@@ -2,7 +2,7 @@
 
 - trace: tests/stored/causes.txt has what became of packets, by scenario and event, as read by hand from the reports and from what
   `state` says; what is stored of the examples gives the same, and so does the program. A report alone says of no packet where it went.
-  So has it the words of `reach` that say why. A tree has each entry once, and each delivery. The three numbers of tools/kept.py are the
+  So has it the words of `reach` that say why. A tree has each entry once, and each delivery. The numbers of tools/kept.py are the
   code's.
 - flow: a ladder has a row for each record but the ends of `advance`, and for each entry that was lost; a picture is XML
   with an arrowhead or a cut for each arrow, and has no script. The pictures of docs/GUIDE.md are made anew. The narrow form
@@ -52,7 +52,7 @@ SEEDS, GENERATED = range(1, 13), 300  # of generated scenarios, and their events
 # A number of a tool, and the constant of the code that it has to be.
 NUMBERS = (
     (kept.FRESH_MS, 'peer_list/src/limits.rt', 'FRESH_MS'), (kept.LISTED_MS, 'peer_list/src/limits.rt', 'LISTED_MS'),
-    (kept.TRY_GAP_MS, 'peer_list/src/limits.rt', 'TRY_GAP_MS'),
+    (kept.TRY_GAP_MS, 'peer_list/src/limits.rt', 'TRY_GAP_MS'), (kept.TRIES_MAX, 'peer_list/src/limits.rt', 'TRIES_MAX'),
     (web.TEXT_MAX, 'scenario/src/reader.rt', 'TEXT_MAX'), (capture.PIECE_BYTES, 'commands/src/capture_file.rt', 'CAPTURE_MAX'),
     (generated.COUNT_MAX, 'events/src/event.rt', 'EVENTS_MAX'))
 

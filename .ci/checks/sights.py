@@ -115,6 +115,29 @@ class Sights:
         self.must(self.browser.run('return state.view.steps.filter((row) => row[5] === "!hairpin").every((row) => row[3] === "carrier")'),
                   'the carrier does not turn back')
 
+    def bars(self):
+        """A NAT's bar ends where nothing renewed it; it is named where one points at it, and in the table; and who is barred is named at each
+        record where that holds."""
+        self.begin()
+        self.shows('lost_mapping')
+        drawn = self.browser.run("""return [...document.querySelectorAll("#picture svg rect.lets")].map((bar) => [Number(bar.getAttribute("y")),
+            Number(bar.getAttribute("y")) + Number(bar.getAttribute("height")), bar.textContent])""")
+        row = self.browser.run('return rowY(state.view.rows.indexOf(13))')  # where n1 has closed
+        mine = [(top, low) for top, low, said in drawn if said.startswith('n1 lets in anyone')]
+        self.must(len(mine) == 2 and mine[0][1] < row < mine[1][0], f'the bars of n1 are {mine}, beside {row}')
+        pointed = self.browser.run("""const bar = document.querySelector("#picture svg rect.over"); bar.scrollIntoView();
+            const box = bar.getBoundingClientRect(), there = document.elementFromPoint(box.left + box.width / 2, box.top + 30);
+            return [there.classList.contains("over"), there.textContent]""")
+        self.must(pointed[0] and 'lets in anyone' in pointed[1], f'a bar says {pointed}')
+        self.browser.run('get("steps-part").open = true')
+        self.must(self.browser.wait('get("steps-table").textContent.includes("n1 has shut for a: doesn\'t let in anyone any more")'), 'the table says of no bar')
+        self.browser.keep('bars')
+        self.shows('unreachable_peer')
+        barred = self.browser.run("""return state.view.records.map((record, at) => { step(at); return [record.moment, /barred until ([0-9,]+) ms/.exec(get("nodes").textContent)]; })
+            .filter(([moment, found]) => moment >= 18000 && moment < 312000).map(([, found]) => found && found[1])""")
+        self.must(len(barred) > 5 and set(barred) == {'312,000'}, f'who is barred is said as {barred}')
+        self.browser.keep('barred')
+
     def shows(self, name):
         """Whether an example is shown, which is asked for by its name."""
         self.browser.run('begin(data.gallery.flatMap((group) => group.items).find((item) => item.name === arguments[0]).text, `${arguments[0]}.toml`)', name)

@@ -3,12 +3,15 @@
 - `tests/stored/NAME.txt#N`: its table N, from 1, as it stands there. An empty line parts two.
 - `tests/stored/relayed.txt#without`: what keeps a packet away, a row for each premise that is broken, with the fates each way.
 - `tests/stored/orders.txt#broken`: the same between two clients, an item for each premise.
+- `tests/stored/chains.txt#chains`: CHAINs for one scenario, with what is said of each and why; EMPTY stands there for no text.
 """
 import re
 
 FOLDER = 'tests/stored/'
 BROKEN = re.compile(r'^without +arrives +left +fates$')
 WITHOUT = re.compile(r'^(to|from) h1, without +comes +left +fates$')
+EMPTY = 'the empty text'
+COLUMNS = re.compile(r' {2,}')
 ROW = re.compile(r'^(.+?) {2,}(?:yes|no) +\d+ +(.*)$')
 
 
@@ -43,7 +46,14 @@ def kept_away(text):
     return '\n'.join(['| | what is otherwise | to the host | to the client |', '|---|---|---|---|', *rows]) + '\n'
 
 
-PARTS = {'without': kept_away, 'broken': broken}
+def chains(text):
+    """Of each CHAIN what is said of it, and why."""
+    head, *rows = (COLUMNS.split(line, maxsplit=2) for line in text.splitlines())
+    cells = ((chain if chain == EMPTY else f'`{chain}`', f'`{said}`' if ': ' in said else said, why) for chain, said, why in rows)
+    return '\n'.join(f'| {" | ".join(row)} |' for row in (head, *cells)).replace('|\n', '|\n|---|---|---|\n', 1) + '\n'
+
+
+PARTS = {'without': kept_away, 'broken': broken, 'chains': chains}
 
 
 def made(text, part):

@@ -27,7 +27,7 @@ class Tour(Sights):
 
     def whole(self):
         for step in (self.steps, self.datagrams, self.picture, self.edit, self.downloads, self.examples, self.two, self.address, self.matrix, self.narrow,
-                     self.crowded, self.legible, self.reading, self.ways, self.many, self.links, self.alone):
+                     self.crowded, self.legible, self.reading, self.ways, self.bars, self.many, self.links, self.alone):
             try:
                 step()
             except Exception as fault:  # of the driver: one step is over, and the next one begins anew
@@ -91,7 +91,7 @@ class Tour(Sights):
                 self.browser.run('get("ends").click()')
             made = flow_svg(self.program, EXAMPLE, *words)
             drawn = self.browser.run('''const svg = document.querySelector("#picture svg").cloneNode(true);
-                svg.querySelectorAll(".hit, .now, .dot").forEach((mark) => mark.remove()); svg.removeAttribute("role");
+                svg.querySelectorAll(".hit, .now, .dot, .over").forEach((mark) => mark.remove()); svg.removeAttribute("role");
                 const made = new DOMParser().parseFromString(arguments[0], "image/svg+xml").documentElement;
                 return [new XMLSerializer().serializeToString(svg).trim() === new XMLSerializer().serializeToString(document.importNode(made, true)).trim(),
                         svg.querySelectorAll("*").length]''', made)

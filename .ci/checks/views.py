@@ -5,6 +5,7 @@
 - A page that `page` writes has all in itself, and nothing of a scenario can end its script.
 - The bytes of each datagram are those of the capture, with what `show` says; a page opens at the first record that matters.
 - Where nothing is built the examples are shown from their reports, and nothing else; `page` alone makes a trial, and says so.
+- A bar of the ladder stands so long a NAT lets somebody in, and is named.
 - Two hosts from each menu are played, and what is no choice is refused.
 """
 import glob
@@ -26,6 +27,8 @@ import player
 import probes
 import told
 import view
+import windows
+from ladder import Ladder
 from laboratory import EXAMPLE, HOSTILE, NO_REACH, REFUSED, TOP, flow_svg, refusal, script
 from stored import of_tests
 from tally import skip
@@ -88,7 +91,7 @@ def check_states(program):
         kinds = {node['name']: node['kind'] for node in shown['nodes']}
         made = told.Told(playing, command.read(path))
         for record in shown['records']:
-            found += [f'{path}: nobody is barred in {record["line"]}'] if record['fate'] == 'barred' and not record.get('barred') else []
+            found += faults_of_bars(made, record, path) if record['fate'] == 'barred' else []
             entry = re.search(r', ([\d.]+:\d+) > [\d.]+:(\d+), ', record['entries'][0][1] if 'way' in record else '')
             nats = [node for node in record.get('way', []) if kinds.get(node) == 'nat']
             if not entry or not nats or record['way'][-1] != record['node'] or kinds.get(record['node']) not in ('client', 'nat'):
@@ -96,6 +99,39 @@ def check_states(program):
             if lets_in(made, record, nats[-1]) != (kinds[record['node']] == 'client'):
                 found.append(f'{path}: {record["line"]}')
     return found + faults_of_patches(playing)
+
+
+def faults_of_bars(made, record, path):
+    """Of a record where somebody is barred: what is kept says for whom and until when, and so does the sentence that says why."""
+    kept, now = made.kept, record['moment']
+    ends = [peer.barred_until(now) for peer in kept.peers(record['node'], kept.after(record['index']), now)]
+    return [] if any(until and until > now for until in ends) and 'why' in record else [f'{path}: nobody is barred in {record["line"]}']
+
+
+def check_windows(program):
+    """A bar stands in a NAT's column from the record that let somebody in up to the record at whose moment nothing does any more: what came
+    in and what was stopped agrees with the bars of the row, and each bar is named, in the picture and in the table."""
+    found, playing = [], player.Player(program)
+    for path in examples():
+        shown = view.view_of(playing, command.read(path), 'x')
+        if 'faults' in shown or not shown['has_state']:
+            continue
+        made = told.Told(playing, command.read(path))
+        ladder = Ladder(made.report, known=made.known, windows=windows.windows_of(made.kept, made.known))
+        for number, row in enumerate(ladder.rows):
+            record, entry = made.report.records[row.record], made.report.entries.get(row.entry)
+            if entry is None or row.is_lost or made.known.kinds.get(row.target) not in ('client', 'nat'):
+                continue
+            nat = row.target if made.known.kinds[row.target] == 'nat' else made.known.way_out(row.target)[0]
+            port = causes.port_at(made, made.kept, nat, entry, made.kept.before(record.index))
+            whom = {'', entry.source, entry.source.rpartition(':')[0]}
+            is_open = any(bar.first < number < bar.end and (bar.window.nat, bar.window.port) == (nat, port) and bar.window.whom in whom for bar in ladder.bars)
+            found += [f'{path}: the bars of row {number} say otherwise: {record.line}'] if is_open == (row.target == nat) else []
+        titles = re.findall('<title>(.*?)</title>', shown['pictures'][0])[1:]
+        said = ' '.join(turn for step in shown['steps'] for turn in step[6])
+        found += [f'{path}: {windows.said_of(bar.window, made.known)} is not said' for bar in ladder.bars
+                  if windows.whom_of(bar.window, made.known) not in said or windows.whom_of(bar.window, made.known) not in ' '.join(titles) and 'more' not in ' '.join(titles)]
+    return found
 
 
 def lets_in(made, record, nat):

@@ -5,8 +5,9 @@ import aligned
 import causes
 import ends
 from kept import Lets
+from player import Trial
 from shared import ONE_CLIENT, WAITED, WAITED_FOLLOW, WAITED_STATE, client, nat, scenario
-from told import Told, alone
+from told import UNBUILT, Told, alone
 
 TWO = scenario(nat('n1', 1), client('a', 'n1'), nat('n2', 2), client('b', 'n2')).replace(
     'events = ["advance 0", "settle"]', 'events = ["host a b 00", "next", "next", "next", "next", "next", "fault 0", "host b a 00", "host b 2001:db8::1 00", "host b a 00"]')
@@ -38,6 +39,15 @@ class Asked(unittest.TestCase):
         one = told(state=WAITED_STATE)
         self.assertIsNone(one.followed)
         self.assertEqual(one.teller.unknown, {'follow'})
+
+    def test_why_it_is_not_told(self):
+        self.assertIsNone(told(state=WAITED_STATE, follow=WAITED_FOLLOW).untold)
+        self.assertIn('doesn\'t answer `follow` or `state`', told().untold)
+        self.assertIn('doesn\'t answer `follow`', told(state=WAITED_STATE).untold)
+        self.assertIn('trace its scenario', alone(WAITED).untold)
+        trial = Trial()
+        trial.reports[TWO] = 0, WAITED
+        self.assertEqual(Told(trial, TWO).untold, UNBUILT)
 
     def test_without_either_the_lines_of_the_report_are_said(self):
         for one in (told(), alone(WAITED)):

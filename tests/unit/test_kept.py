@@ -64,6 +64,10 @@ class Moments(unittest.TestCase):
         self.assertEqual((peer.tries, peer.waits, peer.is_fresh(1000)), ((1000,), 1, False))
         self.assertIsNone(self.kept.peer('r1', PEER, after, 1000 + LISTED_MS))
         self.assertEqual(Peer('::1', touched=5, tries=(1, 5)).tries_at(1 + LISTED_MS), (5,))
+        young, spent = Peer('::1', touched=5000, tries=(5000,)), Peer('::1', touched=9000, tries=(1000, 4000, 6000, 9000))
+        self.assertEqual([young.barred_until(now) for now in (5000, 6999, 7000)], [7000, 7000, None])
+        self.assertEqual([spent.barred_until(now) for now in (9000, 300_999, 301_000)], [301_000, 301_000, None])
+        self.assertIsNone(Peer('::1', '192.0.2.9:1', 7, 7).barred_until(7))
         fresh = Peer('::1', '192.0.2.9:1', 7, 7)
         self.assertEqual((fresh.is_fresh(6 + FRESH_MS), fresh.is_fresh(7 + FRESH_MS)), (True, False))
 

@@ -11,10 +11,23 @@ function drawPicture() {
     hit.addEventListener('click', () => step(record - view.first, view.carried[row]));
     svg.append(hit);
   });
+  svg.querySelectorAll('rect.lets').forEach((bar) => svg.append(pointedAt(bar)));
   box.querySelector('svg')?.remove();
   box.append(svg);
   get('heads').replaceChildren(...view.columns.map(([name]) => make('span', '', name)));
   fit();
+}
+
+// What a bar is pointed at by: it says whom the NAT lets in, and a click goes to the row that is there.
+function pointedAt(bar) {
+  const made = bar.cloneNode(true), width = Number(bar.getAttribute('width')), more = Math.max(0, BAR_WIDTH - width);
+  made.setAttribute('class', 'over');
+  made.setAttribute('x', Number(bar.getAttribute('x')) - more / 2);
+  made.setAttribute('width', width + more);
+  made.addEventListener('click', (event) => {
+    document.elementsFromPoint(event.clientX, event.clientY).find((one) => one.classList.contains('hit'))?.dispatchEvent(new MouseEvent('click'));
+  });
+  return made;
 }
 
 // The picture is fitted to its box, as far as its letters stay large enough, or as large as somebody wants it.
@@ -43,11 +56,12 @@ const hideHeads = () => get('heads').classList.toggle('away', get('picture').scr
 function drawSteps() {
   if (!state.view || !get('steps-part').open) return;
   const { view } = state;
-  const head = make('tr', '', ...['record', 'time', 'from', 'to', 'what', 'what became of it'].map((name) => make('th', '', name)));
+  const head = make('tr', '', ...['record', 'time', 'from', 'to', 'what', 'what became of it', 'whom NATs let in from here on'].map((name) => make('th', '', name)));
   head.querySelectorAll('th').forEach((cell) => { cell.scope = 'col'; });
-  get('steps-table').replaceChildren(head, ...view.steps.map(([record, moment, from, to, what, fate], at) => {
+  get('steps-table').replaceChildren(head, ...view.steps.map(([record, moment, from, to, what, fate, turns], at) => {
     const number = button(String(record), () => step(record - view.first, view.carried[at]));
-    const row = make('tr', '', ...[number, ms(moment), from, to, what, fate].map((cell) => make('td', '', cell)));
+    const row = make('tr', '', ...[number, ms(moment), from, to, what, fate].map((cell) => make('td', '', cell)),
+      make('td', '', ...(turns || []).map((turn) => make('div', '', turn))));
     row.dataset.record = record;
     return row;
   }));
@@ -151,6 +165,8 @@ function aboutRecord(record) {
   const fate = make('b', told.is_drop ? 'drop' : '', record.fate);
   const made = [make('p', 'line', record.line), record.way ? wayOf(record, told.is_drop) : null, make('p', '', fate, told.means ? `: ${told.means}` : '')];
   made.push(...why.map((reason) => make('p', 'why', make('b', '', 'Why: '), `${reason}.`)));
+  const barred = barredNow(record);
+  if (barred) made.push(make('p', 'hint', barred));
   if (told.is_drop && told.look) made.push(make('p', 'hint', `Look next at ${told.look}.`));
   made.push(...record.entries.flatMap(([number, said]) => entryOf(number, said)));
   for (const rule of told.rules) {

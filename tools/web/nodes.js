@@ -48,7 +48,7 @@ function drawNodes(record) {
 
 function knownOf(node, known, record, changes) {
   if (!['nat', 'client', 'relay'].includes(node.kind)) return [];
-  if (!state.view.has_state) return [make('p', 'hint', 'what it keeps isn\'t told: this program doesn\'t answer state')];
+  if (!state.view.has_state) return [make('p', 'hint', 'what it keeps isn\'t told, see above')];
   if (node.kind === 'nat') return [portsOf(node.name, known, record.moment, changes)];
   const isChanged = changes.some(([, what]) => what === 'own' || what === 'void');
   if (node.kind === 'relay') return [peersOf(node.name, known, record, changes)];
@@ -59,10 +59,10 @@ function knownOf(node, known, record, changes) {
 
 const marked = (isChanged) => (isChanged ? make('b', 'changed', 'now') : null);
 
-// Lines as a list, each with whether this record changed it; those that it changed come first.
+// Lines as a list, each with whether this record changed it, and whether it is to be seen before others; those that it changed come first.
 function listOf(lines, none) {
   if (!lines.length) return make('p', 'hint', none);
-  const sorted = [...lines].sort(([, one], [, other]) => other - one);
+  const sorted = [...lines].sort(([, one, isOne = false], [, other, isOther = false]) => other - one || isOther - isOne);
   const shown = sorted.slice(0, PEERS_SHOWN).map(([text, isChanged]) => make('li', '', text, marked(isChanged)));
   return make('ul', '', ...shown, lines.length > PEERS_SHOWN ? make('li', '', `and ${lines.length - PEERS_SHOWN} more`) : null);
 }
@@ -89,22 +89,42 @@ function whoUntil(lets, now) {
 
 function peersOf(node, known, record, changes) {
   const touched = changes.filter(([, what]) => what === 'peer').map(([, , address]) => address);
-  const barred = record.node === node ? record.barred : undefined;
-  const lines = Object.entries(known.peers).map(([address, peer]) => [peerText(address, peer, record.moment, barred), touched.includes(address)]);
+  const lines = Object.entries(known.peers).map(([address, peer]) =>
+    [peerText(address, peer, record.moment), touched.includes(address), barredUntil(peer, record.moment) !== null]);
   return listOf(lines.filter(([text]) => text), 'knows no peer');
 }
 
-function peerText(address, peer, now, barred) {
+const triesOf = (peer, now) => peer.tries.filter((moment) => now - moment < PEERS.listed);
+
+// When a peer may be tried again that is barred now: tried a moment ago, or as often as may be; else null.
+function barredUntil(peer, now) {
+  const tries = triesOf(peer, now), ends = tries.slice(-1).map((moment) => moment + PEERS.gap);
+  if (tries.length >= PEERS.tries) ends.push(tries[tries.length - PEERS.tries] + PEERS.listed);
+  const until = Math.max(0, ...ends);
+  return now < until && now - peer.touched < PEERS.listed ? until : null;
+}
+
+// For whom the node of a record is barred now, in words; null where it is for nobody.
+function barredNow(record) {
+  const known = state.view.has_state && statesNow()[record.node], found = [];
+  for (const [address, peer] of Object.entries(known ? known.peers : {})) {
+    const until = barredUntil(peer, record.moment);
+    if (until !== null) found.push(`${state.view.names[address] || address} until ${ms(until)}`);
+  }
+  const more = found.length > BARRED_SHOWN ? ` and ${found.length - BARRED_SHOWN} more` : '';
+  return found.length ? `${record.node} is barred now for ${found.slice(0, BARRED_SHOWN).join(' and ')}${more}: no try goes there before.` : null;
+}
+
+function peerText(address, peer, now) {
   if (now - peer.touched >= PEERS.listed) return null;
   const words = [], name = state.view.names[address] || address;
   if (peer.at) {
     const isFresh = peer.heard !== null && now - peer.heard < PEERS.fresh;
     words.push(`trusted at ${peer.at}, ${isFresh ? `fresh until ${ms(peer.heard + PEERS.fresh)}` : 'no longer fresh'}`);
   }
-  const tries = peer.tries.filter((moment) => now - moment < PEERS.listed), isYoung = tries.length > 0 && now - tries[tries.length - 1] < PEERS.gap;
-  const young = isYoung ? `, the latest less than ${ms(PEERS.gap)} ago` : '';
-  if (tries.length) words.push(`${tries.length === 1 ? '1 try' : `${tries.length} tries`}${young}`);
-  if (barred !== undefined && barred === name) words.push('barred now');
+  const tries = triesOf(peer, now), until = barredUntil(peer, now);
+  if (tries.length) words.push(`${tries.length === 1 ? '1 try' : `${tries.length} tries`}, the latest at ${ms(tries[tries.length - 1])}`);
+  if (until !== null) words.push(`barred until ${ms(until)}`);
   if (peer.waits) words.push(`${peer.waits} ${peer.waits === 1 ? 'packet waits' : 'packets wait'} for it`);
   if (peer.held) words.push(`${peer.held} of its packets held`);
   return words.length ? `${name}: ${words.join('; ')}` : `${name}: listed`;
@@ -119,7 +139,8 @@ function listPackets() {
     const made = make('li', '', button(packet.said, () => leadTo(packet.record), packet.state));
     if (packet.end !== packet.record) made.append(' ', button(`its end: record ${packet.end}`, () => leadTo(packet.end)));
     return made;
-  }), ...(view.packets_in_all > view.packets.length ? [make('li', 'hint', `${view.packets.length} of ${view.packets_in_all} packets: those of these records`)] : []));
+  }), ...(view.packets_in_all > view.packets.length ? [make('li', 'hint', `${view.packets.length} of ${view.packets_in_all} packets: those of these records`)] : []),
+  ...(view.untold ? [make('li', 'hint', `${view.untold}.`)] : []));
 }
 
 // Leads to a record by its number, also to one that isn't among those that are shown.
@@ -150,6 +171,8 @@ function drawMatrix() {
     return make('tr', '', title, ...names.map((to) => matrixCell(from, to, words.get(`${from} ${to}`))));
   }));
   get('reach-total').textContent = reach.total;
+  const shut = Object.entries(reach.means).filter(([word]) => !word.startsWith('within')).slice(0, WORDS_SHOWN);
+  get('reach-why').replaceChildren(...shut.flatMap(([word, means]) => [make('dt', '', word), make('dd', '', means.split('; promised')[0])]));
   get('reach-words').replaceChildren(...Object.entries(reach.means).flatMap(([word, means]) => [make('dt', '', word), make('dd', '', means)]));
 }
 

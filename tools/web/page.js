@@ -3,7 +3,8 @@
 
 const TYPING_MS = 350, STEP_MS = 750, TRAVEL_MS = 550;
 const LINE_HEIGHT = 18, EDITOR_TOP = 6, HEAD_HEIGHT = 46;   // pixels
-const PEERS_SHOWN = 12;
+const PEERS_SHOWN = 12, BARRED_SHOWN = 3, WORDS_SHOWN = 3;
+const BAR_WIDTH = 7;   // pixels by which a bar of the ladder is pointed at, at least
 const FIT_MIN = 0.923, FIT_MAX = 1.25, ZOOM_MIN = 0.4, ZOOM_MAX = 3, ZOOM_STEP = 1.2;   // of the ladder; at the least its letters of 13 pixels have 12
 const FRAGMENT_MAX = 60000;   // letters of an address
 const SVG = 'http://www.w3.org/2000/svg';
