@@ -95,9 +95,10 @@ class Picture:
         low = self.height - 10 if last.end == len(self.ladder.rows) else row_at(last.end) - (0 if last.window.void is not None else ROW // 2)
         wide = WIDE_LANE if not first.window.whom else LANE
         left = x - wide / 2 + (place + 1) // 2 * (wide if place % 2 else -wide)
+        shuts = '' if last.end == len(self.ladder.rows) or last.window.void is not None else f' data-until="{last.window.until}"'
         said = [windows.said_of(one.window, self.ladder.known) for one in together]
         said[NAMED:] = [f'and {len(said) - NAMED} more'] if len(said) > NAMED else []
-        self.parts.append(f'<rect class="lets" x="{left:.1f}" y="{top}" width="{wide}" height="{low - top}" fill="#d9d9d9" stroke="#767676">'
+        self.parts.append(f'<rect class="lets" x="{left:.1f}" y="{top}" width="{wide}" height="{low - top}" fill="#d9d9d9" stroke="#767676"{shuts}>'
                           f'<title>{NEWLINE.join(map(xml, said))}</title></rect>')
 
     def row(self, row: Row, y: int) -> None:

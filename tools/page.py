@@ -26,7 +26,7 @@ import probes
 import view
 
 FOLDER = os.path.join(command.TOP, 'tools', 'web')
-SCRIPTS = ('page.js', 'links.js', 'ladder.js', 'parts.js', 'nodes.js', 'choices.js')  # which make one script, in this order
+SCRIPTS = ('page.js', 'links.js', 'ladder.js', 'scale.js', 'parts.js', 'nodes.js', 'choices.js')  # which make one script, in this order
 PEERS = {'fresh': kept.FRESH_MS, 'listed': kept.LISTED_MS, 'gap': kept.TRY_GAP_MS, 'tries': kept.TRIES_MAX}
 CAPTURE_MAX = 1 << 20  # bytes of a capture that are put into a page
 PARTS_MAX = 256  # different datagrams whose parts are put into a page

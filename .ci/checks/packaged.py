@@ -1,7 +1,7 @@
 """What the package holds beside its files: that its pages lead into it, what it says of the gate, and how its service behaves.
 
 - leads: each link of a page leads to a file of the package, and so does each file of docs/, examples/, tests/, bench/ and tools/ that a page names.
-- names: docs/SERVE.md names each manual page, and shows lines of the unit as the unit has them.
+- names: docs/COMMANDS.md names each manual page, and docs/SERVE.md shows lines of the unit as the unit has them.
 - refuses: a gate's line that isn't one or says that something failed, another commit, another sum, a program that is none.
 - runs: what docs/TESTING.md leads to runs as it was unpacked.
 - loads: the rules for the firewall may be loaded twice, keep their counts, and leave the limit alone.
@@ -52,14 +52,14 @@ def leads(made):
 
 
 def names(made):
-    page = read(TOP, 'docs', 'SERVE.md')
-    told = re.search(r'^Manual pages: (.*)$', page, re.M)
+    page, commands = read(TOP, 'docs', 'SERVE.md'), read(TOP, 'docs', 'COMMANDS.md')
+    told = re.search(r'^Manual pages: (.*)$', commands, re.M)
     words = set(re.findall(r'`(\w+)`', told[1]) + re.findall(r'teredo-(\w+)\(', told[1])) if told else set()
     wanted = {os.path.basename(path).removeprefix('teredo-').partition('.')[0] for path in glob.glob(f'{made.root}/usr/share/man/*/teredo-*')}
     unit = read(made.root, 'usr/lib/systemd/system/teredo.service').splitlines()
     shown = re.search(r'^```ini\n(\[Unit\]\nDescription=.*?)^```', page, re.M | re.S)
     other = [line for line in (shown[1].splitlines() if shown else ['no unit']) if line and line not in unit]
-    return ([f'docs/SERVE.md has the manual pages {sorted(words)}, and the package {sorted(wanted)}'] if words != wanted else []) + [
+    return ([f'docs/COMMANDS.md has the manual pages {sorted(words)}, and the package {sorted(wanted)}'] if words != wanted else []) + [
         f'docs/SERVE.md shows {line!r}, which the unit hasn\'t' for line in other]
 
 

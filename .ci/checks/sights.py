@@ -7,6 +7,7 @@ import os
 import command
 import page
 import player
+from browser import keys
 from laboratory import EXAMPLE
 
 CONTRAST_MIN, LETTER_MIN = 4.5, 12  # WCAG 2.2, 1.4.3; pixels
@@ -137,6 +138,38 @@ class Sights:
             .filter(([moment, found]) => moment >= 18000 && moment < 312000).map(([, found]) => found && found[1])""")
         self.must(len(barred) > 5 and set(barred) == {'312,000'}, f'who is barred is said as {barred}')
         self.browser.keep('barred')
+
+    def scale(self):
+        """With time to scale, by a key: rows of different moments stand as far from each other as time says, a bar ends at its moment, a row
+        leads to its record as before, letters stay legible, and the box that is cleared brings the picture back."""
+        self.begin()
+        self.shows('lost_mapping')
+        before = self.browser.run('return document.querySelector("#picture svg").outerHTML')
+        self.browser.run('get("timed").focus()')
+        keys(self.browser, 'SPACE')
+        tops = self.browser.run('return state.view.rows.map((_, row) => Number(document.querySelectorAll("#picture rect.hit")[row].getAttribute("y")))')
+        moments = self.browser.run('return state.view.steps.map(([, moment]) => moment)')
+        pairs = list(zip(zip(tops, tops[1:]), zip(moments, moments[1:])))
+        room = {after - before: low - top for (top, low), (before, after) in pairs}  # from a time to what lies between rows
+        step = room.get(0, 0)
+        self.must(step > 0 and {59_999, 40_000} <= set(room) and abs((room[59_999] - step) * 40_000 - (room[40_000] - step) * 59_999) < 60_000
+                  and room[1] - step < 1, f'rows stand apart by {room}')
+        row = moments.index(60_000)
+        foot = self.browser.run("""const bar = document.querySelector('#picture svg rect.lets[data-until="60000"]');
+            return Number(bar.getAttribute("y")) + Number(bar.getAttribute("height"))""")
+        self.must(abs(foot - tops[row]) < 3, f'the bar of n1 ends at {foot}, and the row at {tops[row]}')
+        said = self.browser.run('return [...document.querySelectorAll("#picture svg text.time")].map((one) => one.textContent)')
+        self.must(said == ['+59,999', '+40,000'], f'of time is said {said}')
+        self.browser.run('document.querySelectorAll("#picture rect.hit")[arguments[0]].dispatchEvent(new MouseEvent("click"))', row)
+        self.must(self.browser.run('return state.view.records[state.at].index === state.view.rows[arguments[0]]', row), 'a row to scale leads elsewhere')
+        faint = self.browser.run(FAINT, CONTRAST_MIN, LETTER_MIN)
+        self.must(not faint, f'to scale: {faint[:4]}')
+        self.browser.keep('scale')
+        self.shows('cone_client')
+        self.must(self.browser.run('return get("timed").disabled && !state.shifts'), 'a history of one moment has a scale')
+        self.shows('lost_mapping')
+        self.browser.run('get("timed").click()')
+        self.must(self.browser.run('return document.querySelector("#picture svg").outerHTML') == before, 'the picture does not come back')
 
     def shows(self, name):
         """Whether an example is shown, which is asked for by its name."""

@@ -27,7 +27,7 @@ class Tour(Sights):
 
     def whole(self):
         for step in (self.steps, self.datagrams, self.picture, self.edit, self.downloads, self.examples, self.two, self.address, self.matrix, self.narrow,
-                     self.crowded, self.legible, self.reading, self.ways, self.bars, self.many, self.links, self.alone):
+                     self.crowded, self.legible, self.reading, self.ways, self.bars, self.scale, self.many, self.links, self.alone):
             try:
                 step()
             except Exception as fault:  # of the driver: one step is over, and the next one begins anew

@@ -164,7 +164,7 @@ function listen() {
     get(id).addEventListener('click', () => { if (state.view || !['to-first', 'to-last', 'to-next', 'to-before'].includes(id)) act(); });
   }
   get('at').addEventListener('input', () => step(Number(get('at').value)));
-  get('ends').addEventListener('change', () => { if (state.view) { drawPicture(); step(state.at); } });
+  for (const id of ['ends', 'timed']) get(id).addEventListener('change', () => { if (state.view) { drawPicture(); step(state.at); } });
   get('text').addEventListener('input', typed);
   get('text').addEventListener('scroll', placeBand);
   get('picture').addEventListener('scroll', hideHeads);

@@ -5,6 +5,7 @@ function drawPicture() {
   const read = new DOMParser().parseFromString(view.pictures[get('ends').checked ? 1 : 0], 'image/svg+xml').documentElement;
   const svg = data.isForeign ? cleaned(document.importNode(read, true)) : document.importNode(read, true);
   svg.setAttribute('role', 'img');
+  layByTime(svg);
   const width = Number(svg.getAttribute('width'));
   view.rows.forEach((record, row) => {
     const hit = rectOf(row, width, 'hit');
@@ -81,7 +82,7 @@ const rowY = (row) => state.view.row[0] + state.view.row[1] * row;
 
 function rectOf(row, width, kind) {
   const made = document.createElementNS(SVG, 'rect');
-  const sizes = { class: kind, x: 0, y: rowY(row) - 18, width, height: state.view.row[1] };
+  const sizes = { class: kind, x: 0, y: rowAt(row) - 18, width, height: state.view.row[1] };
   for (const [name, value] of Object.entries(sizes)) made.setAttribute(name, value);
   return made;
 }
@@ -95,7 +96,7 @@ function markRows(record) {
   const paper = svg.querySelector('rect');
   for (const one of rows) paper.after(rectOf(one, svg.getAttribute('width'), 'now'));
   const box = get('picture'), row = rows.length ? rows[0] : Math.max(0, view.rows.filter((known) => known < record.index).length - 1);
-  const top = rowY(row) * state.scale;
+  const top = rowAt(row) * state.scale;
   if (top < box.scrollTop + HEAD_HEIGHT + 20 || top > box.scrollTop + box.clientHeight - 40) box.scrollTop = Math.max(0, top - box.clientHeight / 2);
   const reach = view.columns.filter(([name]) => [record.node, ...(record.way || [])].includes(name)).map(([, x]) => x * state.scale);
   if (reach.length) bringIntoView(box, Math.min(...reach), Math.max(...reach));
@@ -115,7 +116,7 @@ function travel(svg, row) {
   if (!arrow || STILL.matches) return;
   const dot = document.createElementNS(SVG, 'circle');
   const [from, to] = [Number(arrow.getAttribute('x1')), Number(arrow.getAttribute('x2'))];
-  for (const [name, value] of Object.entries({ class: 'dot', cx: from, cy: y, r: 5 })) dot.setAttribute(name, value);
+  for (const [name, value] of Object.entries({ class: 'dot', cx: from, cy: rowAt(row), r: 5 })) dot.setAttribute(name, value);
   svg.append(dot);
   dot.animate([{ transform: 'translateX(0)' }, { transform: `translateX(${to - from}px)` }], { duration: TRAVEL_MS, easing: 'ease-in-out' })
     .finished.then(() => dot.remove(), () => {});

@@ -3,7 +3,7 @@
 const SHOWN_MAX = 16e6;   // letters of what an address may have in it
 const DRAWN = ['svg', 'title', 'rect', 'line', 'text', 'circle', 'polygon'];   // what a picture is made of, and how
 const LOOKS = ['x', 'y', 'x1', 'x2', 'y1', 'y2', 'cx', 'cy', 'r', 'width', 'height', 'viewBox', 'points', 'fill', 'stroke', 'stroke-width',
-  'stroke-dasharray', 'text-anchor', 'font-weight', 'font-size', 'font-family', 'class', 'role'];
+  'stroke-dasharray', 'text-anchor', 'font-weight', 'font-size', 'font-family', 'class', 'role', 'data-until'];
 
 const letters = (word) => btoa(word).replace(/\+/g, '-').replace(/\//g, '_').replace(/=+$/, '');
 const unlettered = (word) => Uint8Array.from(atob(word.replace(/-/g, '+').replace(/_/g, '/')), (letter) => letter.charCodeAt(0));
