@@ -42,7 +42,7 @@ def of_drop(told: Told, record: Record, depth: int = 0) -> str:
 def of_loss(told: Told, loss: Loss) -> str:
     if loss.word == 'hairpin':
         nat = told.known.turned_back_by(loss.maker.node, loss.target)
-        return f'sender and peer are behind one NAT{f", {nat}" if nat else ""}, which doesn\'t send back what is for its own address'
+        return f'sender and peer are behind one NAT{f", {nat}" if nat else ""}: to each other they send to its outside address, and it turns nothing back'
     if loss.word == 'fault':
         return f'the send failed, as `fault` let it, and {loss.maker.node} doesn\'t know: nothing went out to {loss.target}'
     if loss.word == 'full':

@@ -42,6 +42,11 @@ class Row:
     is_turned: bool = False  # its target is the NAT that turned it back
     entry: int | None = None  # the number of what travels, where it has one
 
+    @property
+    def is_red(self) -> bool:
+        """Whether it was dropped, or not sent."""
+        return self.is_dropped or self.fate.startswith('!')
+
 
 @dataclass
 class Bar:

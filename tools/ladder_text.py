@@ -91,7 +91,7 @@ def text_of(ladder: Ladder, has_ends: bool = False) -> list[str]:
     canvas = Canvas(ladder, has_ends)
     pictures = [canvas.line(row) for row in ladder.rows]
     width = max([len(picture.rstrip()) for picture in pictures] + [0])
-    return [canvas.head()] + [command.red(f'{time}{picture[:width].ljust(width)}   {row.text}'.rstrip(), row.is_dropped)
+    return [canvas.head()] + [command.red(f'{time}{picture[:width].ljust(width)}   {row.text}'.rstrip(), row.is_red)
                               for time, row, picture in zip(times(ladder), ladder.rows, pictures)]
 
 
@@ -120,7 +120,7 @@ def close_of(ladder: Ladder, width: int) -> list[str]:
         first, *rest = textwrap.wrap(said_of(row), width - front - 2) or ['']
         picture = canvas.line(row)[:front - TIME_WIDTH].ljust(front - TIME_WIDTH)
         made = [f'{time}{picture}  {first}'] + [f'{"":{TIME_WIDTH}}{bars:<{front - TIME_WIDTH}}  {more}' for more in rest]
-        lines += [command.red(line.rstrip(), row.is_dropped) for line in made]
+        lines += [command.red(line.rstrip(), row.is_red) for line in made]
     return lines
 
 
@@ -145,7 +145,7 @@ def narrow_of(ladder: Ladder, has_ends: bool = False, width: int = NARROW) -> li
     lines = []
     for time, row, (source, target) in zip(times(ladder), ladder.rows, sides):
         made = wrapped(f'{time}{source:>{left}} {short_arrow(row)} {target:<{right}}  ', said_of(row), width)
-        lines += [command.red(line, row.is_dropped) for line in made]
+        lines += [command.red(line, row.is_red) for line in made]
     return lines
 
 

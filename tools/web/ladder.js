@@ -98,14 +98,15 @@ function markRows(record) {
   const box = get('picture'), row = rows.length ? rows[0] : Math.max(0, view.rows.filter((known) => known < record.index).length - 1);
   const top = rowAt(row) * state.scale;
   if (top < box.scrollTop + HEAD_HEIGHT + 20 || top > box.scrollTop + box.clientHeight - 40) box.scrollTop = Math.max(0, top - box.clientHeight / 2);
-  const reach = view.columns.filter(([name]) => [record.node, ...(record.way || [])].includes(name)).map(([, x]) => x * state.scale);
-  if (reach.length) bringIntoView(box, Math.min(...reach), Math.max(...reach));
+  const ends = rows.flatMap((one) => view.steps[one].slice(2, 4)), places = new Map(view.columns.map(([name, x]) => [name, x * state.scale]));
+  const reach = [record.node, ...(record.way || []), ...ends].filter((name) => places.has(name)).map((name) => places.get(name));
+  if (reach.length) bringIntoView(box, Math.min(...reach), Math.max(...reach), reach[reach.length - 1]);
   for (const one of rows) travel(svg, one);
 }
 
-// Scrolls sideways, where an arrow isn't seen.
-function bringIntoView(box, left, right) {
-  const most = right - left > box.clientWidth - 80 ? left - 60 : (left + right) / 2 - box.clientWidth / 2;
+// Scrolls sideways, where an arrow isn't seen; of one that is too long its end is.
+function bringIntoView(box, left, right, end) {
+  const isLong = right - left > box.clientWidth - 80, most = isLong ? (end > left ? end - box.clientWidth + 100 : left - 120) : (left + right) / 2 - box.clientWidth / 2;
   if (left - 40 < box.scrollLeft || right + 40 > box.scrollLeft + box.clientWidth) box.scrollLeft = Math.max(0, most);
 }
 
