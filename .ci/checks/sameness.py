@@ -18,6 +18,7 @@ import tempfile
 import chains
 import command
 import probes
+import told
 import view
 from player import STDIN, Player
 from stored import run
@@ -25,11 +26,9 @@ from stored import run
 RECORD = re.compile(r'(\d+) (\d+) (\d+) (\S+) (\S+) (\S+)(.*)')
 STEP = re.compile(r'\d+ .*')
 PACKET = re.compile(r'packet (\d+) (\d+) (\S+) (\S+ \S+)(?: back (\S+ \S+))?')
-ROW = re.compile(r' *[\d,]+,  (arrives|never) +(\S.*)')
-HANDS_IN = ('host', 'echo', 'raw')
+ROW = re.compile(r' *[\d,]+  (arrives|never) +(\S.*)')
 LISTED_MS = 300_000  # RFC 4380, section 5.2: what is known of a peer counts so long
-SCHEDULES = 40  # of an exploration, at most
-COUNTS = collections.Counter  # of what was compared
+SCHEDULES, WINDOWS = 40, 6  # of an exploration, and of a page, at most
 
 
 class Lines:
@@ -201,14 +200,14 @@ class Compared:
         self.counts['schedules'] += 1
 
     def page(self):
-        """The data of a page, once from the first record on, and once from any other."""
-        count = len(self.lines.records)
-        for first in (0, self.drawn.randrange(count) if count else 0):
-            shown = json.loads(json.dumps(view.view_of(self.playing, self.text, 'x', first=first)))
-            first = shown['first']
-            self.must([record['line'] for record in shown['records']] == self.lines.report[first:-1], 'the page has other records')
-            self.packets(shown)
-            self.nodes(shown, first)
+        """The data of a page, from the first record on; and what it has of the nodes where it begins with any other."""
+        shown = json.loads(json.dumps(view.view_of(self.playing, self.text, 'x')))
+        self.must([record['line'] for record in shown['records']] == self.lines.report[:-1], 'the page has other records')
+        self.packets(shown)
+        self.nodes(shown, 0)
+        made, count = told.Told(self.playing, self.text), len(self.lines.records)
+        for first in self.drawn.sample(range(count), min(count, WINDOWS)):
+            self.nodes(json.loads(json.dumps(view.View(made, 'x', first=first).whole())), first)
 
     def packets(self, shown):
         self.must(len(shown['packets']) == len(self.lines.packets), f'the page has {len(shown["packets"])} packets, not {len(self.lines.packets)}')
